@@ -12,6 +12,8 @@ ghost use Rattle.mending.specs.Steps.{First-ends, add, add-all, gap, wants-das
 use tag::ends_in_lock;
 use tag::scanner::Scanner;
 
+pub mod display;
+
 /// Why a text is not mended.
 #[derive(Clone, Copy, Debug, PartialEq, Eq)]
 pub enum Error {

@@ -34,7 +34,8 @@ Allows x P = (x ≡ allowed → P) × (P → x ≡ allowed)
 never : (n : ℕ) (v : Value) → refused n v ≡ allowed → ⊥
 never n v e = let z : _≡_ {A = ℕ} 0 1 = cc in omega arith
 
-error-never : (e : Error) → refusal e ≡ allowed → ⊥
+-- An error does not allow.
+pub error-never : (e : Error) → refusal e ≡ allowed → ⊥
 error-never e p = never 0 Value.nothing (sym (ap (λ x. first-of x (refused 0 Value.nothing)) p) ∙ (refusal-decides e (refused 0 Value.nothing) ∙ p))
 
 -- A call that gives the answer x answers Ok exactly where P holds.

@@ -1,13 +1,17 @@
 -- The number and the value of each error, and the answer that a result stands for.
 use Prim.Native.Nat.{ℕ}
 use mathlib.Core.List.{List}
+use mathlib.Core.Logic.{_⊎_}
 use mathlib.Core.Path.{_≡_}
 use denote.Ref.{RefT}
+use Rattle.std.specs.declared.option.Option.{Option}
+use Rattle.std.specs.declared.option.Option.the-variants.{Some, None}
 use Rattle.std.specs.declared.result.Result.{Result}
 use Rattle.std.specs.declared.result.Result.the-variants.{Ok, Err}
 use Rattle.tag.specs.Answers.{Answer, Value}
 use Rattle.tag.specs.Answers.Answer.{allowed, refused}
 use Rattle.tag.specs.Answers.Value.{nothing, byte, name}
+use Rattle.tag.specs.Errors.{number-of}
 use Rattle.tag.specs.declared.Error as tag
 use Rattle.tag.specs.declared.Error.the-variants as tags
 use Rattle.reference.specs.declared.Error.{Error}
@@ -42,6 +46,11 @@ from-tag tags.StartsWithDot = StartsWithDot
 from-tag tags.EndsWithDot = EndsWithDot
 from-tag tags.EndsWithSlash = EndsWithSlash
 from-tag tags.Empty = Empty
+
+-- The tag name's error that e is, and none exactly for the two numbers that tag names lack.
+abbrev pub Shared : Option tag.Error → Error → Type 0
+Shared (Some t) e = e ≡ from-tag t
+Shared None e = (number-of (refusal e) ≡ 12) ⊎ (number-of (refusal e) ≡ 13)
 
 -- The answer that a result stands for.
 abbrev pub answer-of : {T : Type 0} → Result T Error → Answer

@@ -10,9 +10,11 @@ ghost use Rattle.tag.specs.Answers.Answer.{allowed};
 ghost use Rattle.tag.specs.Errors.{number-of};
 ghost use Rattle.mending.specs.Errors.{outcome-of};
 ghost use Rattle.mending.specs.Mender.{buffer-after, mended, outcome, room};
-ghost use Rattle.reference.specs.Errors.{Lends, answer-of, from-tag, refusal};
+ghost use Rattle.reference.specs.Errors.{Lends, Shared, answer-of, from-tag, refusal};
 ghost use Rattle.reference.specs.Manual.{Branch-rules, Complete-rules, Partial-rules};
 ghost use Rattle.reference.specs.Names.{all-capital, begins, branch-name, capital as is-capital, complete as is-complete, complete-name, has-slash, kept-from-branches, partial-name};
+
+pub mod display;
 
 /// Why a reference name is refused. The cases keep the numbers 1 to 13, in this order.
 #[derive(Clone, Copy, Debug, PartialEq, Eq)]
@@ -72,6 +74,28 @@ impl Error<'_> {
             Error::Empty => 11,
             Error::SomeLowercase => 12,
             Error::Reserved(_) => 13,
+        }
+    }
+}
+
+impl Error<'_> {
+    /// The same error of a tag name, where tag names have it.
+    pub fn tag_error(&self) -> Option<tag::Error>
+        ensures { λ r. ⌜ Shared r (now (self .entry)) ⌝ }
+    {
+        match self {
+            Error::InvalidByte(byte) => Some(tag::Error::InvalidByte(*byte)),
+            Error::StartsWithSlash => Some(tag::Error::StartsWithSlash),
+            Error::RepeatedSlash => Some(tag::Error::RepeatedSlash),
+            Error::RepeatedDot => Some(tag::Error::RepeatedDot),
+            Error::LockFileSuffix => Some(tag::Error::LockFileSuffix),
+            Error::ReflogPortion => Some(tag::Error::ReflogPortion),
+            Error::Asterisk => Some(tag::Error::Asterisk),
+            Error::StartsWithDot => Some(tag::Error::StartsWithDot),
+            Error::EndsWithDot => Some(tag::Error::EndsWithDot),
+            Error::EndsWithSlash => Some(tag::Error::EndsWithSlash),
+            Error::Empty => Some(tag::Error::Empty),
+            Error::SomeLowercase | Error::Reserved(_) => None,
         }
     }
 }
@@ -179,6 +203,7 @@ pub fn branch_name(input: &[u8]) -> Result<&[u8], Error<'_>>
 pub fn name_partial_or_sanitize(input: &[u8], out: &mut [u8]) -> Result<usize, mending::Error>
     ensures answer { λ r. ⌜ outcome-of r ≡ outcome (now (input .entry)) (length (now (out .entry))) ⌝ }
     ensures buffer { λ _. ⌜ now (out .exit) ≡ buffer-after (now (input .entry)) (now (out .entry)) ⌝ }
+    ensures text { λ r. ⌜ made r (λ n. take n (now (out .exit)) ≡ mended (now (input .entry))) ⌝ }
     ensures always_allowed { λ r. ⌜ made r (λ n. partial-name (take n (now (out .exit))) ≡ allowed) ⌝ }
     ensures no_longer { λ r. ⌜ made r (λ n. n ≤ room (now (input .entry))) ⌝ }
     ensures allowed_stays { λ r. ⌜ (partial-name (now (input .entry)) ≡ allowed → made r (λ n. take n (now (out .exit)) ≡ now (input .entry))) ⌝ }

@@ -11,6 +11,7 @@ ghost use Rattle.tag.specs.Manual.{Rules};
 ghost use Rattle.tag.specs.Names.{closing, opening, reads, tag-name};
 use scanner::Scanner;
 
+pub mod display;
 pub mod scanner;
 
 /// Why a tag name is refused. The cases keep the numbers 1 to 11, in this order.

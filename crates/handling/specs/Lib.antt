@@ -1,0 +1,2 @@
+-- The definitions that the contracts of the list of handles cite.
+pub mod Report
