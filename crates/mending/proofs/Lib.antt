@@ -11,3 +11,4 @@ pub mod Adding
 pub mod Splitting
 pub mod Ending
 pub mod Filling
+pub mod Written

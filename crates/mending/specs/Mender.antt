@@ -63,10 +63,18 @@ pub data Outcome : Type 0 where
   wrote : ℕ → Outcome
   refused : ℕ → Outcome
 
--- The answer for the input s and a buffer of n bytes: 31 where the buffer is shorter than the room.
-abbrev pub outcome : List ℕ → ℕ → Outcome
-outcome s n = cond (leb (room s) n) (wrote (length (mended s))) (refused 31)
+-- The answer for the input s, the text made of it and a buffer of n bytes: the text's length, and 31 where the buffer is
+-- shorter than the room.
+abbrev pub outcome-with : List ℕ → List ℕ → ℕ → Outcome
+outcome-with text s n = cond (leb (room s) n) (wrote (length text)) (refused 31)
 
 -- The buffer after the call: as it was where the call is refused.
+abbrev pub buffer-after-with : List ℕ → List ℕ → List ℕ → List ℕ
+buffer-after-with text s before = cond (leb (room s) (length before)) (buffer-with text (room s) before) before
+
+-- The same for the mender's own text.
+abbrev pub outcome : List ℕ → ℕ → Outcome
+outcome s n = outcome-with (mended s) s n
+
 abbrev pub buffer-after : List ℕ → List ℕ → List ℕ
-buffer-after s before = cond (leb (room s) (length before)) (buffer-with (mended s) (room s) before) before
+buffer-after s before = buffer-after-with (mended s) s before

@@ -1,0 +1,4 @@
+-- The definitions that the contracts cite.
+pub mod Table
+pub mod Standard
+pub mod Reader

@@ -1,0 +1,12 @@
+//! Tests of characters, protections and path components, with examples from outside.
+#[cfg(test)]
+mod characters_read;
+#[cfg(test)]
+mod components_checked;
+#[cfg(test)]
+mod verdicts_given;
+
+/// How many groups of tests there are.
+pub fn groups() -> u8 {
+    3
+}

@@ -1,0 +1,36 @@
+//! Five protections against names that a file system takes for others: their keys and their verdicts.
+mod cuts;
+mod hfs_names;
+mod keys;
+mod ntfs_names;
+mod plain_names;
+mod rules;
+mod windows_names;
+
+pub use cuts::one_of;
+pub use hfs_names::Hfs;
+pub use hfs_names::HfsKeyed;
+pub use hfs_names::HfsProtection;
+pub use keys::Cursor;
+pub use keys::Keyed;
+pub use keys::same;
+pub use keys::same_key;
+pub use ntfs_names::Ntfs;
+pub use ntfs_names::NtfsKeyed;
+pub use ntfs_names::NtfsProtection;
+pub use plain_names::Plain;
+pub use plain_names::PlainKeyed;
+pub use plain_names::PlainProtection;
+pub use plain_names::named;
+pub use rules::Mode;
+pub use rules::ModePartialEq;
+pub use rules::Protection;
+pub use rules::Verdict;
+pub use rules::VerdictPartialEq;
+pub use windows_names::WindowsDevices;
+pub use windows_names::WindowsDevicesKeyed;
+pub use windows_names::WindowsDevicesProtection;
+pub use windows_names::WindowsNames;
+pub use windows_names::WindowsNamesKeyed;
+pub use windows_names::WindowsNamesProtection;
+pub use windows_names::names_device;
