@@ -1,4 +1,4 @@
-//! Components: those that Git refuses or keeps, under settings of the protections.
+//! Components at the edges of the rules, under settings of the protections.
 use path::AllOn;
 use path::ErrorDisplay;
 use path::Mode;

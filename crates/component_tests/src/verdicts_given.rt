@@ -1,4 +1,4 @@
-//! Verdicts: names that Git's own tests refuse or keep, and names at the edges of the rules.
+//! Verdicts on names at the edges of the rules.
 use protections::Hfs;
 use protections::HfsKeyed;
 use protections::HfsProtection;

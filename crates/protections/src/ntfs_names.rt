@@ -13,14 +13,14 @@ use crate::cuts::take_small;
 use crate::cuts::up_to;
 use crate::cuts::without_end;
 use crate::keys::Keyed;
-use crate::plain_names::Lowered;
-use crate::plain_names::LoweredKeyed;
 use crate::plain_names::named;
 use crate::plain_names::named_among;
 use crate::rules::Mode;
 use crate::rules::Protection;
 use crate::rules::Verdict;
 use crate::rules::guard;
+use crate::small_letters::Lowered;
+use crate::small_letters::LoweredKeyed;
 
 /// Refuses what NTFS takes for `.git`, and for `.gitmodules` as a link, short names too.
 /// Its key is the bytes before the first `:`, without trailing spaces and dots, A to Z made small.

@@ -3,10 +3,8 @@ ghost use mathlib.Core.Path.{_≡_};
 ghost use denote.Ref.{now};
 ghost use mathlib.Core.List.{map};
 ghost use Rattle.protections.specs.Words.{equals, listed};
-ghost use Rattle.protections.specs.Keys.{lowered};
 ghost use Rattle.protections.specs.Rules.{numbered, plain-rule};
 use crate::cuts::take_byte;
-use crate::cuts::take_small;
 use crate::keys::Cursor;
 use crate::keys::Keyed;
 use crate::keys::same;
@@ -14,6 +12,8 @@ use crate::rules::Mode;
 use crate::rules::Protection;
 use crate::rules::Verdict;
 use crate::rules::guard;
+use crate::small_letters::Lowered;
+use crate::small_letters::LoweredKeyed;
 
 /// Refuses `.git`, and `.gitmodules` as a link, in any case of the letters. Its key is the bytes.
 #[derive(Clone, Copy)]
@@ -30,24 +30,6 @@ pub impl Keyed for Plain as PlainKeyed {
 
     fn advance(&self, rest: &mut &[u8]) -> Option<u32> {
         take_byte(rest)
-    }
-}
-
-// The bytes with A to Z made small.
-#[derive(Clone, Copy)]
-pub(crate) struct Lowered;
-
-pub(crate) impl Keyed for Lowered as LoweredKeyed {
-    ghost key = { λ _ s. lowered s };
-
-    ghost remaining = { λ _ s. lowered s };
-
-    fn start<'a>(&self, component: &'a [u8]) -> &'a [u8] {
-        component
-    }
-
-    fn advance(&self, rest: &mut &[u8]) -> Option<u32> {
-        take_small(rest)
     }
 }
 

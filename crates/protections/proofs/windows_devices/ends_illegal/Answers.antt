@@ -6,7 +6,7 @@ use mathlib.Core.List.{[]}
 use Rattle.std.proofs.shelf.Lists.{nil-from-length}
 use Rattle.protections.specs.Words.{some}
 use Rattle.protections.specs.Rules.{ends-illegally}
-use Rattle.protections.proofs.windows_names.ends_illegal.Needs as need
+use Rattle.protections.proofs.windows_devices.ends_illegal.Needs as need
 
 pub returns-in-empty : need.returns-in-empty
 unfolding ends-illegally some

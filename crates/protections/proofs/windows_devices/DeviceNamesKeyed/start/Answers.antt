@@ -2,7 +2,7 @@
 use mathlib.Core.Path.{ap, _∙_}
 use lib.Chars.{codes}
 use Rattle.protections.specs.Keys.{lowered, trimmed, device-key}
-use Rattle.protections.proofs.windows_names.DeviceNamesKeyed.start.Needs as need
+use Rattle.protections.proofs.windows_devices.DeviceNamesKeyed.start.Needs as need
 
 pub returns : need.returns
 unfolding device-key

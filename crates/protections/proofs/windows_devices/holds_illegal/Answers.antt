@@ -2,7 +2,7 @@
 use mathlib.Core.Path.{sym, _∙_}
 use Rattle.protections.specs.Rules.{illegal, has-illegal}
 use Rattle.protections.proofs.Equal.{some-yes, some-no, some-end}
-use Rattle.protections.proofs.windows_names.holds_illegal.Needs as need
+use Rattle.protections.proofs.windows_devices.holds_illegal.Needs as need
 
 pub loop-byte-again : need.loop-byte-again
 loop-byte-again c =

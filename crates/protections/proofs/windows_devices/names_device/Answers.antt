@@ -6,7 +6,7 @@ use Rattle.protections.specs.Keys.{device-key}
 use Rattle.protections.specs.Names.{devices}
 use Rattle.protections.specs.Rules.{is-device}
 use Rattle.protections.proofs.Told.{listed-decides}
-use Rattle.protections.proofs.windows_names.names_device.Needs as need
+use Rattle.protections.proofs.windows_devices.names_device.Needs as need
 
 pub returns : need.returns
 unfolding is-device

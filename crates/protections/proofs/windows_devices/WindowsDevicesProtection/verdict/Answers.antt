@@ -1,7 +1,7 @@
 -- The verdict is the rule's.
 use Rattle.protections.specs.Rules.{device-rule}
 use Rattle.protections.proofs.Equal.{first-rule, second-rule, no-rule}
-use Rattle.protections.proofs.windows_names.WindowsDevicesProtection.verdict.Needs as need
+use Rattle.protections.proofs.windows_devices.WindowsDevicesProtection.verdict.Needs as need
 
 pub returns-then-names-device : need.returns-then-names-device
 unfolding device-rule
