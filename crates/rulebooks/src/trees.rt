@@ -12,7 +12,7 @@ use super::RulebookFault;
 use super::ask;
 
 /// The length of the component that `path` begins with.
-fn component_end(path: &[u8]) -> usize
+pub fn component_end(path: &[u8]) -> usize
     ensures { λ r. ⌜ First-ends (now (path .entry)) r ⌝ }
 {
     for (i, byte) in path.iter().enumerate() {
