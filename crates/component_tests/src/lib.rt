@@ -5,8 +5,3 @@ mod characters_read;
 mod components_checked;
 #[cfg(test)]
 mod verdicts_given;
-
-/// How many groups of tests there are.
-pub fn groups() -> u8 {
-    3
-}
