@@ -126,7 +126,7 @@ fn replayed_component(heap: Global, mut fields: Split<'_, char>) -> Result<bool,
 }
 
 /// Whether the port answers as the line says: a letter, for components the settings, the input, and the answer.
-pub fn replayed(heap: Global, line: &str) -> Result<bool, AllocError> {
+pub(crate) fn replayed(heap: Global, line: &str) -> Result<bool, AllocError> {
     let mut fields = line.split(' ');
     let Some(letter) = fields.next() else {
         return Ok(false);

@@ -20,7 +20,7 @@ fn byte(high: u8, low: u8) -> Option<u8> {
 }
 
 /// The bytes that a text writes, none where it writes no bytes.
-pub fn read(heap: Global, text: &str) -> Result<Option<Vec<u8>>, AllocError> {
+pub(crate) fn read(heap: Global, text: &str) -> Result<Option<Vec<u8>>, AllocError> {
     let mut bytes = Vec::new(heap);
     if text == "-" {
         return Ok(Some(bytes));
