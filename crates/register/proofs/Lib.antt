@@ -8,3 +8,6 @@ pub mod Tallies
 pub mod Steps
 pub mod Refusals
 pub mod Claims
+pub mod Turning
+pub mod Tables
+pub mod Comparing

@@ -3,3 +3,4 @@ pub mod Meeting
 pub mod Entries
 pub mod Calls
 pub mod Claim
+pub mod Rows
