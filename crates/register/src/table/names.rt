@@ -15,7 +15,7 @@ impl Name {
     };
 
     /// Keeps the name.
-    pub fn new(name: &[u8]) -> Name
+    pub(crate) fn new(name: &[u8]) -> Name
         requires { ⌜ length (now name) ≤ 255 ⌝ }
         ensures { λ r. ⌜ name-of r ≡ now (name .entry) ⌝ }
     {
@@ -28,7 +28,7 @@ impl Name {
     }
 
     /// The name.
-    pub fn as_bytes(&self) -> &[u8]
+    pub(crate) fn as_bytes(&self) -> &[u8]
         ensures { λ r. ⌜ now r ≡ name-of (now (self .entry)) ⌝ }
     {
         &self.bytes[0..self.len as usize]
@@ -37,7 +37,7 @@ impl Name {
 
 impl Row {
     /// A row of these.
-    pub fn new(name: Name, number: u32, mode: Option<Mode>) -> Row
+    pub(crate) fn new(name: Name, number: u32, mode: Option<Mode>) -> Row
         ensures { λ r. ⌜ (r .name ≡ name) × (r .number ≡ number) × (r .mode ≡ mode) ⌝ }
     {
         Row { name, number, mode }

@@ -10,7 +10,7 @@ use super::Table;
 
 impl Table {
     /// No rows.
-    pub fn new() -> Table
+    pub(crate) fn new() -> Table
         ensures { λ r. ⌜ entries-of r ≡ [] ⌝ }
     {
         let none = Row {
@@ -25,7 +25,7 @@ impl Table {
     }
 
     /// How many rows there are.
-    pub fn count(&self) -> usize
+    pub(crate) fn count(&self) -> usize
         ensures { λ r. ⌜ r ≡ length (entries-of (now (self .entry))) ⌝ }
     {
         self.count
