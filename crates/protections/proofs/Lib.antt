@@ -5,7 +5,7 @@ pub mod CutKey
 mod CutShort
 pub mod Devices
 pub mod Equal
-mod Hidden
+mod FirstDot
 mod Lent
 mod Second
 mod Short

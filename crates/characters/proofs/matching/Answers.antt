@@ -20,16 +20,16 @@ returns-else-contains c =
     c.if-count-ranges.true
     (sym c.if-contains.ensures)
     in
-    record { value = omega arith; bytes-bound = omega arith; ranges-bound = omega arith }
+    record { value = omega arith; bytes_bound = omega arith; ranges_bound = omega arith }
 
 pub returns-else-count-ranges : goal.returns-else-count-ranges
 returns-else-count-ranges c =
     let most = common_prefix_len-le within (drop c.loop-count.count c.args.bytes.now) (drop c.loop-count.count c.args.ranges.now) in
     let left = length-drop c.loop-count.count c.args.ranges.now in
-    record { value = omega arith; bytes-bound = omega arith; ranges-bound = omega arith }
+    record { value = omega arith; bytes_bound = omega arith; ranges_bound = omega arith }
 
 pub returns-after-loop-count : goal.returns-after-loop-count
 returns-after-loop-count c =
     let most = common_prefix_len-le within (drop c.loop-count.count c.args.bytes.now) (drop c.loop-count.count c.args.ranges.now) in
     let left = length-drop c.loop-count.count c.args.bytes.now in
-    record { value = omega arith; bytes-bound = omega arith; ranges-bound = omega arith }
+    record { value = omega arith; bytes_bound = omega arith; ranges_bound = omega arith }

@@ -8,16 +8,16 @@ use Rattle.characters.proofs.Only.{only}
 use Rattle.characters.proofs.Steps.{standing, at_none, at_some, at_part}
 use Rattle.characters.proofs.step.Goals as goal
 
-pub returns-in-default : goal.returns-in-default
-returns-in-default c =
+pub returns-in_default : goal.returns-in_default
+returns-in_default c =
     let e = nil_from_length c.args.bytes.now (search rules) in
     let v : None ≡ first_part c.args.bytes.now = rw e in
     record { value = v; standard = e; only = λ p i. v ∙ only c.args.bytes.now p i }
 
-pub returns-in-default-following : goal.returns-in-default-following
-returns-in-default-following c =
+pub returns-in_default-following : goal.returns-in_default-following
+returns-in_default-following c =
     let s = c.args.bytes.now in
-    let v = at_none s (search rules) c.in-default-following.ensures in
+    let v = at_none s (search rules) c.in_default-following.ensures in
     record { value = v; standard = subst (Standard s) (sym v) (standing s); only = λ p i. v ∙ only s p i }
 
 pub returns-then-length-ranges : goal.returns-then-length-ranges

@@ -16,9 +16,9 @@ returns-then-byte-eq10 c =
       shorter = simp (r, length-drop) (omega arith);
     }
 
-pub returns-then-is-empty : goal.returns-then-is-empty
-returns-then-is-empty c =
-    let none : length c.args.text.now ≡ 0 = let h = c.is-empty.ensures in let t = c.if-is-empty.true in grind (arith, nat_tests) in
+pub returns-then-is_empty : goal.returns-then-is_empty
+returns-then-is_empty c =
+    let none : length c.args.text.now ≡ 0 = let h = c.is_empty.ensures in let t = c.if-is_empty.true in grind (arith, nat_tests) in
     let e = nil_from_length c.args.text.now none in
     record { splits = e; shorter = e }
 
@@ -26,7 +26,7 @@ pub returns : goal.returns
 unfolding lines
 returns c =
     let n = length c.args.text.now in
-    let some : 0 < length c.args.text.now = let h = c.is-empty.ensures in let t = c.if-is-empty.false in grind (arith, nat_tests) in
+    let some : 0 < length c.args.text.now = let h = c.is_empty.ensures in let t = c.if-is_empty.false in grind (arith, nat_tests) in
     let r : take (n - n) (drop n c.args.text.now) ≡ [] =
     take_rest c.args.text.now n ∙ drop_all n c.args.text.now (omega arith) in
     record {

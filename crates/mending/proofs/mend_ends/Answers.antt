@@ -8,18 +8,18 @@ returns-then-end-eq0 c = record {
   bound = omega arith;
 }
 
-pub returns-then-wants-dash : goal.returns-then-wants-dash
-returns-then-wants-dash c =
+pub returns-then-wants_dash : goal.returns-then-wants_dash
+returns-then-wants_dash c =
     let z : c.args.end - 0 ≡ c.args.end = omega arith in
     record {
-      mends = dash_written c.args.out.now c.args.end (omega arith) (omega arith) (sym (rw z at c.if-wants-dash.ensures));
+      mends = dash_written c.args.out.now c.args.end (omega arith) (omega arith) (sym (rw z at c.if-wants_dash.ensures));
       bound = omega arith;
     }
 
-pub returns-else-wants-dash : goal.returns-else-wants-dash
-returns-else-wants-dash c =
+pub returns-else-wants_dash : goal.returns-else-wants_dash
+returns-else-wants_dash c =
     let z : c.args.end - 0 ≡ c.args.end = omega arith in
     record {
-      mends = text_stays c.args.out.now c.args.end (omega arith) (omega arith) (sym (rw z at c.if-wants-dash.ensures));
+      mends = text_stays c.args.out.now c.args.end (omega arith) (omega arith) (sym (rw z at c.if-wants_dash.ensures));
       bound = omega arith;
     }

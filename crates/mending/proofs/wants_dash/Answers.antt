@@ -3,5 +3,5 @@ use Rattle.std.proofs.lemmas.List.{get_or_past}
 use Rattle.std.proofs.lemmas.Bool.Decides.{nat_tests}
 use Rattle.mending.proofs.wants_dash.Goals as goal
 
-pub returns-in-default : goal.returns-in-default
-returns-in-default c = grind (arith, nat_tests, get_or_past)
+pub returns-in_default : goal.returns-in_default
+returns-in_default c = grind (arith, nat_tests, get_or_past)

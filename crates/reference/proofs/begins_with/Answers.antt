@@ -5,5 +5,5 @@ use Rattle.reference.proofs.begins_with.Goals as goal
 
 pub returns : goal.returns
 returns c =
-    same_from_decides _ _ (slice_eq-Decides Decides-eqb _ _ _ c.starts-with.ensures.value)
+    same_from_decides _ _ (slice_eq-Decides Decides-eqb _ _ _ c.starts_with.ensures.value)
     (bytes_eq-Decides c.args.word.now (take (length c.args.word.now) c.args.input.now))

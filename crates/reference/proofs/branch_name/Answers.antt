@@ -11,27 +11,27 @@ use Rattle.reference.proofs.Deciding.{first_refuses}
 use Rattle.reference.proofs.Manual.{decides_err, decides_ok, branch_allows}
 use Rattle.reference.proofs.branch_name.Goals as goal
 
-pub returns-in-err-name : goal.returns-in-err-name
+pub returns-in_err-name : goal.returns-in_err-name
 unfolding branch_name
-returns-in-err-name c =
-    let p = err_from_is_err_and c.from-residual.result c.from-residual.ensures.1 in
-    let a : refusal c.in-err-name.field-0.0 ≡ branch_name c.args.input.now =
-    first_refuses (complete_name c.args.input.now) _ _ c.in-err-name.ensures.answer in
+returns-in_err-name c =
+    let p = err_from_is_err_and c.from_residual.result c.from_residual.ensures.1 in
+    let a : refusal c.in_err-name.field-0.0 ≡ branch_name c.args.input.now =
+    first_refuses (complete_name c.args.input.now) _ _ c.in_err-name.ensures.answer in
     rw (p.1, p.2)
-    (record { answer = a; view = c.in-err-name.ensures.view; manual = decides_err c.in-err-name.field-0.0 _ a (branch_allows c.args.input.now) })
+    (record { answer = a; view = c.in_err-name.ensures.view; manual = decides_err c.in_err-name.field-0.0 _ a (branch_allows c.args.input.now) })
 
-pub returns-then-kept-from-branches : goal.returns-then-kept-from-branches
+pub returns-then-kept_from_branches : goal.returns-then-kept_from_branches
 unfolding branch_name
-returns-then-kept-from-branches c =
+returns-then-kept_from_branches c =
     let a : refusal (Reserved c.args.input) ≡ branch_name c.args.input.now =
-    first_passes (complete_name c.args.input.now) _ _ c.in-ok-name.ensures.answer
-    (sym (cond-true _ _ _ (sym c.if-kept-from-branches.ensures))) in
+    first_passes (complete_name c.args.input.now) _ _ c.in_ok-name.ensures.answer
+    (sym (cond-true _ _ _ (sym c.if-kept_from_branches.ensures))) in
     record { answer = a; view = refl; manual = decides_err (Reserved c.args.input) _ a (branch_allows c.args.input.now) }
 
 pub returns : goal.returns
 unfolding branch_name
 returns c =
     let a : allowed ≡ branch_name c.args.input.now =
-    first_passes (complete_name c.args.input.now) _ _ c.in-ok-name.ensures.answer
-    (sym (cond-false _ _ _ (sym c.if-kept-from-branches.ensures))) in
+    first_passes (complete_name c.args.input.now) _ _ c.in_ok-name.ensures.answer
+    (sym (cond-false _ _ _ (sym c.if-kept_from_branches.ensures))) in
     record { answer = a; view = refl; manual = decides_ok _ a (branch_allows c.args.input.now) }

@@ -11,20 +11,20 @@ use Rattle.reference.proofs.Deciding.{first_refuses}
 use Rattle.reference.proofs.Manual.{decides_err, decides_ok, complete_allows}
 use Rattle.reference.proofs.name.Goals as goal
 
-pub returns-in-err-name-partial : goal.returns-in-err-name-partial
+pub returns-in_err-name_partial : goal.returns-in_err-name_partial
 unfolding complete_name
-returns-in-err-name-partial c =
-    let p = err_from_is_err_and c.from-residual.result c.from-residual.ensures.1 in
-    let a : refusal c.in-err-name-partial.field-0.0 ≡ complete_name c.args.input.now =
-    first_refuses (partial_name c.args.input.now) _ _ c.in-err-name-partial.ensures.answer in
+returns-in_err-name_partial c =
+    let p = err_from_is_err_and c.from_residual.result c.from_residual.ensures.1 in
+    let a : refusal c.in_err-name_partial.field-0.0 ≡ complete_name c.args.input.now =
+    first_refuses (partial_name c.args.input.now) _ _ c.in_err-name_partial.ensures.answer in
     rw (p.1, p.2)
-    (record { answer = a; view = c.in-err-name-partial.ensures.view; manual = decides_err c.in-err-name-partial.field-0.0 _ a (complete_allows c.args.input.now) })
+    (record { answer = a; view = c.in_err-name_partial.ensures.view; manual = decides_err c.in_err-name_partial.field-0.0 _ a (complete_allows c.args.input.now) })
 
 pub returns-then-not-complete : goal.returns-then-not-complete
 unfolding complete_name
 returns-then-not-complete c =
     let a : refusal SomeLowercase ≡ complete_name c.args.input.now =
-    first_passes (partial_name c.args.input.now) _ _ c.in-ok-name-partial.ensures.answer
+    first_passes (partial_name c.args.input.now) _ _ c.in_ok-name_partial.ensures.answer
     (sym (cond-false _ _ _ (sym c.if-not-complete.ensures))) in
     record { answer = a; view = tt; manual = decides_err SomeLowercase _ a (complete_allows c.args.input.now) }
 
@@ -32,6 +32,6 @@ pub returns : goal.returns
 unfolding complete_name
 returns c =
     let a : allowed ≡ complete_name c.args.input.now =
-    first_passes (partial_name c.args.input.now) _ _ c.in-ok-name-partial.ensures.answer
+    first_passes (partial_name c.args.input.now) _ _ c.in_ok-name_partial.ensures.answer
     (sym (cond-true _ _ _ (sym c.if-not-complete.ensures))) in
     record { answer = a; view = refl; manual = decides_ok _ a (complete_allows c.args.input.now) }

@@ -12,27 +12,27 @@ use Rattle.reference.proofs.Deciding.{first_refuses, from_tag_refuses, from_tag_
 use Rattle.reference.proofs.Manual.{decides_err, decides_ok, partial_allows}
 use Rattle.reference.proofs.name_partial.Goals as goal
 
-pub returns-in-err-name : goal.returns-in-err-name
+pub returns-in_err-name : goal.returns-in_err-name
 unfolding partial_name
-returns-in-err-name c =
-    let p = err_from_is_err_and c.from-residual.result c.from-residual.ensures.1 in
-    let a : refusal (from_tag c.in-err-name.field-0.0) ≡ partial_name c.args.input.now =
-    first_refuses (tag_name c.args.input.now) _ _ (from_tag_refuses _ ∙ c.in-err-name.ensures.answer) in
+returns-in_err-name c =
+    let p = err_from_is_err_and c.from_residual.result c.from_residual.ensures.1 in
+    let a : refusal (from_tag c.in_err-name.field-0.0) ≡ partial_name c.args.input.now =
+    first_refuses (tag_name c.args.input.now) _ _ (from_tag_refuses _ ∙ c.in_err-name.ensures.answer) in
     rw (p.1, p.2)
-    (record { answer = a; view = from_tag_lends c.args.input _; manual = decides_err (from_tag c.in-err-name.field-0.0) _ a (partial_allows c.args.input.now) })
+    (record { answer = a; view = from_tag_lends c.args.input _; manual = decides_err (from_tag c.in_err-name.field-0.0) _ a (partial_allows c.args.input.now) })
 
-pub returns-then-is-word : goal.returns-then-is-word
+pub returns-then-is_word : goal.returns-then-is_word
 unfolding partial_name
-returns-then-is-word c =
+returns-then-is_word c =
     let a : refusal (Reserved c.args.input) ≡ partial_name c.args.input.now =
-    first_passes (tag_name c.args.input.now) _ _ c.in-ok-name.ensures.answer
-    (sym (cond-true _ _ _ (sym c.if-is-word.ensures))) in
+    first_passes (tag_name c.args.input.now) _ _ c.in_ok-name.ensures.answer
+    (sym (cond-true _ _ _ (sym c.if-is_word.ensures))) in
     record { answer = a; view = refl; manual = decides_err (Reserved c.args.input) _ a (partial_allows c.args.input.now) }
 
 pub returns : goal.returns
 unfolding partial_name
 returns c =
     let a : allowed ≡ partial_name c.args.input.now =
-    first_passes (tag_name c.args.input.now) _ _ c.in-ok-name.ensures.answer
-    (sym (cond-false _ _ _ (sym c.if-is-word.ensures))) in
+    first_passes (tag_name c.args.input.now) _ _ c.in_ok-name.ensures.answer
+    (sym (cond-false _ _ _ (sym c.if-is_word.ensures))) in
     record { answer = a; view = refl; manual = decides_ok _ a (partial_allows c.args.input.now) }

@@ -14,7 +14,7 @@ returns g c =
       answer = m.answer;
       buffer = m.buffer;
       text = made_text t s c.args.out.now (λ n x. x ≡ t) refl c.mend.result c.mend.new.out m.answer m.buffer;
-      always-allowed = made_text t s c.args.out.now (λ n x. g.R.Rulebook.meaning x ≡ allowed) (laws.always_allowed s) c.mend.result c.mend.new.out m.answer m.buffer;
+      always_allowed = made_text t s c.args.out.now (λ n x. g.R.Rulebook.meaning x ≡ allowed) (laws.always_allowed s) c.mend.result c.mend.new.out m.answer m.buffer;
       no_longer = made_text t s c.args.out.now (λ n x. n ≤ max 1 (length s)) (laws.no_longer s) c.mend.result c.mend.new.out m.answer m.buffer;
       allowed_stays = λ h. made_text t s c.args.out.now (λ n x. x ≡ s) (laws.allowed_stays s h) c.mend.result c.mend.new.out m.answer m.buffer;
     }

@@ -7,21 +7,21 @@ use Rattle.tag.proofs.Parts.{components_split}
 use Rattle.tag.proofs.Rules.{decides_rules}
 use Rattle.tag.proofs.name.Goals as goal
 
-pub returns-in-err-check : goal.returns-in-err-check
-returns-in-err-check c =
-    let p = err_from_is_err_and c.from-residual.result c.from-residual.ensures.1 in
-    let a : answer_of c.from-residual.result ≡ tag_name c.args.input.now =
-    rw (p.1, p.2) c.in-err-check.ensures in
+pub returns-in_err-check : goal.returns-in_err-check
+returns-in_err-check c =
+    let p = err_from_is_err_and c.from_residual.result c.from_residual.ensures.1 in
+    let a : answer_of c.from_residual.result ≡ tag_name c.args.input.now =
+    rw (p.1, p.2) c.in_err-check.ensures in
     record {
       answer = a;
       view = rw p.1 tt;
       parts = components_split c.args.input.now;
-      manual = decides_rules c.from-residual.result c.args.input.now a;
+      manual = decides_rules c.from_residual.result c.args.input.now a;
     }
 
 pub returns : goal.returns
 returns c =
-    let a = c.in-ok-check.ensures in
+    let a = c.in_ok-check.ensures in
     record {
       answer = a;
       view = refl;

@@ -7,7 +7,7 @@ use Rattle.tag.specs.Names.{pair, reads}
 use Rattle.tag.specs.Scanning.{after}
 use Rattle.tag.proofs.Reading.{reads-ordinary, reads-pair, reads_on, reads_lock, last_byte_more}
 use Rattle.tag.proofs.read.Goals as goal
-use Rattle.tag.proofs.read.Goals.{else-byte-eq47-via-then-byte-eq47+else-ends-in-lock, else-byte-eq47-via-else-byte-eq47}
+use Rattle.tag.proofs.read.Goals.{else-byte-eq47-via-then-byte-eq47+else-ends_in_lock, else-byte-eq47-via-else-byte-eq47}
 
 pub returns-in-Some : goal.returns-in-Some
 returns-in-Some c =
@@ -15,12 +15,12 @@ returns-in-Some c =
     (c.in-Some.ensures.finds (last_byte (take c.loop-i.i c.args.input.now)) c.loop-i.invariant.0)
     ∙ c.loop-i.invariant.1
 
-pub returns-then-ends-in-lock : goal.returns-then-ends-in-lock
-returns-then-ends-in-lock c =
+pub returns-then-ends_in_lock : goal.returns-then-ends_in_lock
+returns-then-ends_in_lock c =
     let z : c.loop-i.i - 0 ≡ c.loop-i.i = omega arith in
     reads_lock c.args.input.now c.loop-i.i (omega arith)
-    (c.in-default.ensures.finds (last_byte (take c.loop-i.i c.args.input.now)) c.loop-i.invariant.0)
-    c.if-byte-eq47.true (sym (rw z at c.if-ends-in-lock.ensures))
+    (c.in_default.ensures.finds (last_byte (take c.loop-i.i c.args.input.now)) c.loop-i.invariant.0)
+    c.if-byte-eq47.true (sym (rw z at c.if-ends_in_lock.ensures))
     ∙ c.loop-i.invariant.1
 
 pub loop-i-preserved-then-ordinary : goal.loop-i-preserved-then-ordinary
@@ -33,10 +33,10 @@ loop-i-preserved c =
     let lt : c.loop-i.i < length c.args.input.now = omega arith in
     let z : c.loop-i.i - 0 ≡ c.loop-i.i = omega arith in
     let clear : allowed ≡ pair (last_byte (take c.loop-i.i c.args.input.now)) (get_or c.args.input.now c.loop-i.i 0) =
-    c.in-default.ensures.finds (last_byte (take c.loop-i.i c.args.input.now)) c.loop-i.invariant.0 in
+    c.in_default.ensures.finds (last_byte (take c.loop-i.i c.args.input.now)) c.loop-i.invariant.0 in
     let unlocked : get_or c.args.input.now c.loop-i.i 0 ≡ 47 → ends_in_lock (take c.loop-i.i c.args.input.now) ≡ false =
     elim c.else-byte-eq47.branch [
-      | else-byte-eq47-via-then-byte-eq47+else-ends-in-lock w ↦ λ _. sym (rw z at w.if-ends-in-lock.ensures)
+      | else-byte-eq47-via-then-byte-eq47+else-ends_in_lock w ↦ λ _. sym (rw z at w.if-ends_in_lock.ensures)
       | else-byte-eq47-via-else-byte-eq47 w ↦ λ e. absurd (w.if-byte-eq47.false e)
     ] in (
       c.step.ensures.moves ∙ ap after (sym (last_byte_more c.args.input.now c.loop-i.i lt)),

@@ -8,7 +8,7 @@ pub loop-byte-preserved : goal.loop-byte-preserved
 loop-byte-preserved g c =
     every_more (λ b. not (among g.C.Cut.fillers b)) c.args.bytes.now c.loop-byte.byte-index c.loop-byte.other _ 0
     c.loop-byte-test.true
-    (ap not c.is-filler.ensures)
+    (ap not c.is_filler.ensures)
     ∙ c.loop-byte.invariant
 
 pub returns : goal.returns

@@ -5,21 +5,21 @@ use Rattle.protections.proofs.cut_names.only_fillers.Goals as goal
 
 pub loop-byte-preserved : goal.loop-byte-preserved
 loop-byte-preserved g c =
-    rest_more g.C.Cut.stops g.C.Cut.fillers g.met.C.Cut.apart c.past-blocks-rest.result.now c.loop-byte.byte-index
+    rest_more g.C.Cut.stops g.C.Cut.fillers g.met.C.Cut.apart c.past_blocks-rest.result.now c.loop-byte.byte-index
     c.loop-byte-test.true
-    c.if-not-is-filler.ensures
+    c.if-not-is_filler.ensures
     ∙ c.loop-byte.invariant
 
-pub returns-then-not-is-filler : goal.returns-then-not-is-filler
-returns-then-not-is-filler g c =
-    c.is-stop.ensures
-    ∙ rest_stop g.C.Cut.stops g.C.Cut.fillers c.past-blocks-rest.result.now c.loop-byte.byte-index c.loop-byte-test.true
-    c.if-not-is-filler.ensures
+pub returns-then-not-is_filler : goal.returns-then-not-is_filler
+returns-then-not-is_filler g c =
+    c.is_stop.ensures
+    ∙ rest_stop g.C.Cut.stops g.C.Cut.fillers c.past_blocks-rest.result.now c.loop-byte.byte-index c.loop-byte-test.true
+    c.if-not-is_filler.ensures
     ∙ c.loop-byte.invariant
-    ∙ c.past-blocks-rest.ensures
+    ∙ c.past_blocks-rest.ensures
 
 pub returns : goal.returns
 returns g c =
-    rest_end g.C.Cut.stops g.C.Cut.fillers c.past-blocks-rest.result.now c.loop-byte.byte-index c.loop-byte-test.false
+    rest_end g.C.Cut.stops g.C.Cut.fillers c.past_blocks-rest.result.now c.loop-byte.byte-index c.loop-byte-test.false
     ∙ c.loop-byte.invariant
-    ∙ c.past-blocks-rest.ensures
+    ∙ c.past_blocks-rest.ensures

@@ -5,10 +5,10 @@ use Rattle.protections.proofs.cut_names.past_blocks.Goals as goal
 
 pub loop-rest-preserved : goal.loop-rest-preserved
 loop-rest-preserved g c =
-    rest_block g.C.Cut.stops g.C.Cut.fillers g.met.C.Cut.apart 16 c.loop-rest.rest.now c.if-all-fillers.ensures
+    rest_block g.C.Cut.stops g.C.Cut.fillers g.met.C.Cut.apart 16 c.loop-rest.rest.now c.if-all_fillers.ensures
     ∙ c.loop-rest.invariant
 
-pub returns-then-all-fillers-2 : goal.returns-then-all-fillers-2
-returns-then-all-fillers-2 g c =
-    rest_block g.C.Cut.stops g.C.Cut.fillers g.met.C.Cut.apart 4 c.loop-rest.rest.now c.if-all-fillers-2.ensures
+pub returns-then-all_fillers-2 : goal.returns-then-all_fillers-2
+returns-then-all_fillers-2 g c =
+    rest_block g.C.Cut.stops g.C.Cut.fillers g.met.C.Cut.apart 4 c.loop-rest.rest.now c.if-all_fillers-2.ensures
     ∙ c.loop-rest.invariant

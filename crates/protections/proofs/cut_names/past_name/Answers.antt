@@ -10,14 +10,14 @@ returns-in-empty g c =
     (nil_from_length c.loop-byte.rest.now (search rules))
     ∙ c.loop-byte.invariant.0
 
-pub returns-then-to-ascii-lowercase-byte : goal.returns-then-to-ascii-lowercase-byte
-returns-then-to-ascii-lowercase-byte g c =
+pub returns-then-to_ascii_lowercase-byte : goal.returns-then-to_ascii_lowercase-byte
+returns-then-to_ascii_lowercase-byte g c =
     name_other g.C.Cut.stops g.C.Cut.fillers g.met.C.Cut.stopped g.met.C.Cut.filled c.loop-byte.rest.now c.args.name.now
     c.loop-byte.byte-index
     c.loop-byte-test.true
     (search rules)
     c.loop-byte.invariant.1
-    (λ e. c.if-to-ascii-lowercase-byte.true (c.to-ascii-lowercase.ensures.value ∙ e))
+    (λ e. c.if-to_ascii_lowercase-byte.true (c.to_ascii_lowercase.ensures.value ∙ e))
     ∙ c.loop-byte.invariant.0
 
 pub loop-byte-preserved : goal.loop-byte-preserved
@@ -27,7 +27,7 @@ loop-byte-preserved g c = (
       c.loop-byte-test.true
       (search rules)
       c.loop-byte.invariant.1
-      (sym c.to-ascii-lowercase.ensures.value ∙ c.if-to-ascii-lowercase-byte.false)
+      (sym c.to_ascii_lowercase.ensures.value ∙ c.if-to_ascii_lowercase-byte.false)
       ∙ c.loop-byte.invariant.0,
   name_left g.C.Cut.stops g.C.Cut.fillers c.args.name.now c.loop-byte.byte-index c.loop-byte-test.true c.loop-byte.invariant.1,
 )

@@ -21,5 +21,5 @@ returns-in-None g c =
 
 pub returns : goal.returns
 returns g c =
-    let v = equals_ends _ _ _ _ _ c.in-default.ensures.0 c.next-2.ensures c.is-none.ensures ∙ c.loop-number.invariant in
+    let v = equals_ends _ _ _ _ _ c.in_default.ensures.0 c.next-2.ensures c.is_none.ensures ∙ c.loop-number.invariant in
     record { value = v; decides = decided _ _ _ v }

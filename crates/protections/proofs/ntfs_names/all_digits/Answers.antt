@@ -6,13 +6,13 @@ use Rattle.protections.proofs.ntfs_names.all_digits.Goals as goal
 
 pub loop-byte-preserved : goal.loop-byte-preserved
 loop-byte-preserved c =
-    sym (some_no (λ b. not (digit b)) c.args.bytes.now c.loop-byte.byte-index 0 c.loop-byte-test.true (ap not (sym c.if-not-is-digit.ensures)))
+    sym (some_no (λ b. not (digit b)) c.args.bytes.now c.loop-byte.byte-index 0 c.loop-byte-test.true (ap not (sym c.if-not-is_digit.ensures)))
     ∙ c.loop-byte.invariant
 
-pub returns-then-not-is-digit : goal.returns-then-not-is-digit
-returns-then-not-is-digit c =
+pub returns-then-not-is_digit : goal.returns-then-not-is_digit
+returns-then-not-is_digit c =
     ap not
-    (sym (some_yes (λ b. not (digit b)) c.args.bytes.now c.loop-byte.byte-index 0 c.loop-byte-test.true (ap not (sym c.if-not-is-digit.ensures)))
+    (sym (some_yes (λ b. not (digit b)) c.args.bytes.now c.loop-byte.byte-index 0 c.loop-byte-test.true (ap not (sym c.if-not-is_digit.ensures)))
     ∙ c.loop-byte.invariant)
 
 pub returns : goal.returns

@@ -5,16 +5,16 @@ use Rattle.protections.specs.Keys.{cut_key, cut_name, ntfs_key}
 use Rattle.protections.proofs.Equal.{either_first, either_second}
 use Rattle.protections.proofs.ntfs_names.is_modules.Goals as goal
 
-pub cut-named-among-requires : goal.cut-named-among-requires
+pub cut_named_among-requires : goal.cut_named_among-requires
 unfolding cut_name some
-cut-named-among-requires c = (refl, (refl, (refl, (refl, (refl, tt)))))
+cut_named_among-requires c = (refl, (refl, (refl, (refl, (refl, tt)))))
 
-pub returns-then-cut-named-among : goal.returns-then-cut-named-among
+pub returns-then-cut_named_among : goal.returns-then-cut_named_among
 unfolding cut_key ntfs_key
-returns-then-cut-named-among c = either_first _ _ c.cut-named-among.result c.cut-named-among.ensures c.if-cut-named-among.true
+returns-then-cut_named_among c = either_first _ _ c.cut_named_among.result c.cut_named_among.ensures c.if-cut_named_among.true
 
-pub returns-else-cut-named-among : goal.returns-else-cut-named-among
+pub returns-else-cut_named_among : goal.returns-else-cut_named_among
 unfolding cut_key ntfs_key
-returns-else-cut-named-among c =
-    either_second _ _ c.cut-named-among.result c.is-cut-short.result c.cut-named-among.ensures c.if-cut-named-among.false
-    c.is-cut-short.ensures
+returns-else-cut_named_among c =
+    either_second _ _ c.cut_named_among.result c.is_cut_short.result c.cut_named_among.ensures c.if-cut_named_among.false
+    c.is_cut_short.ensures

@@ -5,5 +5,5 @@ use Rattle.protections.proofs.ntfs_names.is_numbered.Goals as goal
 
 pub returns-then-digits-more : goal.returns-then-digits-more
 returns-then-digits-more c =
-    numbered_yes c.args.more c.args.bytes.now (search rules) (search rules) (search rules) (search rules) (search rules) c.all-digits.result
-    c.all-digits.ensures
+    numbered_yes c.args.more c.args.bytes.now (search rules) (search rules) (search rules) (search rules) (search rules) c.all_digits.result
+    c.all_digits.ensures

@@ -11,12 +11,12 @@ loop-front-init c = refl
 
 pub loop-front-preserved : goal.loop-front-preserved
 loop-front-preserved c =
-    sym (choice_no (lowered c.args.name.now) c.loop-front.front c.loop-front-test.true c.if-is-short-at.ensures)
+    sym (choice_no (lowered c.args.name.now) c.loop-front.front c.loop-front-test.true c.if-is_short_at.ensures)
     ∙ c.loop-front.invariant
 
-pub returns-then-is-short-at : goal.returns-then-is-short-at
-returns-then-is-short-at c =
-    sym (choice_yes (lowered c.args.name.now) c.loop-front.front c.loop-front-test.true c.if-is-short-at.ensures)
+pub returns-then-is_short_at : goal.returns-then-is_short_at
+returns-then-is_short_at c =
+    sym (choice_yes (lowered c.args.name.now) c.loop-front.front c.loop-front-test.true c.if-is_short_at.ensures)
     ∙ c.loop-front.invariant
 
 pub returns : goal.returns

@@ -11,4 +11,4 @@ returns-in-empty c = let e = nil_from_length c.args.component.now (search rules)
 
 pub returns-in-len1-up : goal.returns-in-len1-up
 unfolding ends_illegally
-returns-in-len1-up c = c.one-of.ensures
+returns-in-len1-up c = c.one_of.ensures

@@ -6,7 +6,7 @@ use Rattle.protections.proofs.windows_devices.holds_illegal.Goals as goal
 
 pub loop-byte-preserved : goal.loop-byte-preserved
 loop-byte-preserved c =
-    every_more illegal c.args.component.now c.loop-byte.byte-index c.loop-byte.found _ 0 c.loop-byte-test.true c.is-illegal-found.ensures
+    every_more illegal c.args.component.now c.loop-byte.byte-index c.loop-byte.found _ 0 c.loop-byte-test.true c.is_illegal-found.ensures
     ∙ c.loop-byte.invariant
 
 pub returns : goal.returns

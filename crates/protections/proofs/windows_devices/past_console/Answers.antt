@@ -5,28 +5,28 @@ use Rattle.protections.specs.Words.{some}
 use Rattle.protections.specs.Keys.{cut_name}
 use Rattle.protections.proofs.Devices.{console, console_in, console_out}
 use Rattle.protections.proofs.windows_devices.past_console.Goals as goal
-use Rattle.protections.proofs.windows_devices.past_console.Goals.{in-default-via-then-rest-lt1, in-default-via-else-rest-lt1+in-default·}
+use Rattle.protections.proofs.windows_devices.past_console.Goals.{in_default-via-then-rest-lt1, in_default-via-else-rest-lt1+in_default·}
 
-pub past-name-requires : goal.past-name-requires
+pub past_name-requires : goal.past_name-requires
 unfolding some cut_name
-past-name-requires c = refl
+past_name-requires c = refl
 
-pub past-name-requires-in-111 : goal.past-name-requires-in-111
+pub past_name-requires-in-111 : goal.past_name-requires-in-111
 unfolding some cut_name
-past-name-requires-in-111 c = refl
+past_name-requires-in-111 c = refl
 
 pub returns-in-105 : goal.returns-in-105
 returns-in-105 c =
-    console_in c.args.rest.now _ (search rules) (grind (arith, nat_tests)) c.past-name.ensures
+    console_in c.args.rest.now _ (search rules) (grind (arith, nat_tests)) c.past_name.ensures
 
 pub returns-in-111 : goal.returns-in-111
 returns-in-111 c =
-    console_out c.args.rest.now _ (search rules) (grind (arith, nat_tests)) c.past-name-in-111.ensures
+    console_out c.args.rest.now _ (search rules) (grind (arith, nat_tests)) c.past_name-in-111.ensures
 
-pub returns-in-default : goal.returns-in-default
-returns-in-default c =
-    elim c.in-default.branch [
-      | in-default-via-then-rest-lt1 w ↦ console c.args.rest.now _ (λ l e. grind (arith, nat_tests)) (λ l e. grind (arith, nat_tests)) refl
-      | in-default-via-else-rest-lt1+in-default· w ↦
+pub returns-in_default : goal.returns-in_default
+returns-in_default c =
+    elim c.in_default.branch [
+      | in_default-via-then-rest-lt1 w ↦ console c.args.rest.now _ (λ l e. grind (arith, nat_tests)) (λ l e. grind (arith, nat_tests)) refl
+      | in_default-via-else-rest-lt1+in_default· w ↦
           console c.args.rest.now _ (λ l e. grind (arith, nat_tests)) (λ l e. grind (arith, nat_tests)) refl
     ]

@@ -4,7 +4,7 @@ use Rattle.protections.specs.Words.{equals}
 use Rattle.protections.specs.Names.{continued}
 use Rattle.protections.proofs.Devices.{with_letters, without_letters, alone, numbered_com, numbered_lpt}
 use Rattle.protections.proofs.windows_devices.past_device.Goals as goal
-use Rattle.protections.proofs.windows_devices.past_device.Goals.{in-default-via-in-97·+in-117·+in-default·, in-default-via-in-97·+in-default·, in-default-via-in-110·+in-117·+in-default·, in-default-via-in-110·+in-default·, in-default-via-in-112·+in-114·+in-default·, in-default-via-in-112·+in-default·, in-default-via-in-99·+in-111·+in-default·, in-default-via-in-99·+in-default·, in-default-via-in-108·+in-112·+in-default·, in-default-via-in-108·+in-default·, in-default-via-in-default·}
+use Rattle.protections.proofs.windows_devices.past_device.Goals.{in_default-via-in-97·+in-117·+in_default·, in_default-via-in-97·+in_default·, in_default-via-in-110·+in-117·+in_default·, in_default-via-in-110·+in_default·, in_default-via-in-112·+in-114·+in_default·, in_default-via-in-112·+in_default·, in_default-via-in-99·+in-111·+in_default·, in_default-via-in-99·+in_default·, in_default-via-in-108·+in-112·+in_default·, in_default-via-in-108·+in_default·, in_default-via-in_default·}
 
 pub returns-in-97-eq117-eq120 : goal.returns-in-97-eq117-eq120
 unfolding continued equals
@@ -28,32 +28,32 @@ pub returns-in-99-eq111-eq110 : goal.returns-in-99-eq111-eq110
 unfolding continued equals
 returns-in-99-eq111-eq110 c =
     with_letters c.args.a c.args.b c.args.c 99 111 110 c.args.rest.now _ (omega arith) (omega arith) (omega arith)
-    c.past-console.ensures
+    c.past_console.ensures
 
 pub returns-in-99-eq111-eq109 : goal.returns-in-99-eq111-eq109
 unfolding continued equals
 returns-in-99-eq111-eq109 c =
     with_letters c.args.a c.args.b c.args.c 99 111 109 c.args.rest.now _ (omega arith) (omega arith) (omega arith)
-    (c.past-digit.ensures ∙ numbered_com c.args.rest.now)
+    (c.past_digit.ensures ∙ numbered_com c.args.rest.now)
 
 pub returns-in-108-eq112-eq116 : goal.returns-in-108-eq112-eq116
 unfolding continued equals
 returns-in-108-eq112-eq116 c =
     with_letters c.args.a c.args.b c.args.c 108 112 116 c.args.rest.now _ (omega arith) (omega arith) (omega arith)
-    (c.past-digit-in-108-eq112-eq116.ensures ∙ numbered_lpt c.args.rest.now)
+    (c.past_digit-in-108-eq112-eq116.ensures ∙ numbered_lpt c.args.rest.now)
 
-pub returns-in-default : goal.returns-in-default
-returns-in-default c =
-    elim c.in-default.branch [
-      | in-default-via-in-97·+in-117·+in-default· w ↦ without_letters c.args.a c.args.b c.args.c c.args.rest.now (λ d. omega arith)
-      | in-default-via-in-97·+in-default· w ↦ without_letters c.args.a c.args.b c.args.c c.args.rest.now (λ d. omega arith)
-      | in-default-via-in-110·+in-117·+in-default· w ↦ without_letters c.args.a c.args.b c.args.c c.args.rest.now (λ d. omega arith)
-      | in-default-via-in-110·+in-default· w ↦ without_letters c.args.a c.args.b c.args.c c.args.rest.now (λ d. omega arith)
-      | in-default-via-in-112·+in-114·+in-default· w ↦ without_letters c.args.a c.args.b c.args.c c.args.rest.now (λ d. omega arith)
-      | in-default-via-in-112·+in-default· w ↦ without_letters c.args.a c.args.b c.args.c c.args.rest.now (λ d. omega arith)
-      | in-default-via-in-99·+in-111·+in-default· w ↦ without_letters c.args.a c.args.b c.args.c c.args.rest.now (λ d. omega arith)
-      | in-default-via-in-99·+in-default· w ↦ without_letters c.args.a c.args.b c.args.c c.args.rest.now (λ d. omega arith)
-      | in-default-via-in-108·+in-112·+in-default· w ↦ without_letters c.args.a c.args.b c.args.c c.args.rest.now (λ d. omega arith)
-      | in-default-via-in-108·+in-default· w ↦ without_letters c.args.a c.args.b c.args.c c.args.rest.now (λ d. omega arith)
-      | in-default-via-in-default· w ↦ without_letters c.args.a c.args.b c.args.c c.args.rest.now (λ d. omega arith)
+pub returns-in_default : goal.returns-in_default
+returns-in_default c =
+    elim c.in_default.branch [
+      | in_default-via-in-97·+in-117·+in_default· w ↦ without_letters c.args.a c.args.b c.args.c c.args.rest.now (λ d. omega arith)
+      | in_default-via-in-97·+in_default· w ↦ without_letters c.args.a c.args.b c.args.c c.args.rest.now (λ d. omega arith)
+      | in_default-via-in-110·+in-117·+in_default· w ↦ without_letters c.args.a c.args.b c.args.c c.args.rest.now (λ d. omega arith)
+      | in_default-via-in-110·+in_default· w ↦ without_letters c.args.a c.args.b c.args.c c.args.rest.now (λ d. omega arith)
+      | in_default-via-in-112·+in-114·+in_default· w ↦ without_letters c.args.a c.args.b c.args.c c.args.rest.now (λ d. omega arith)
+      | in_default-via-in-112·+in_default· w ↦ without_letters c.args.a c.args.b c.args.c c.args.rest.now (λ d. omega arith)
+      | in_default-via-in-99·+in-111·+in_default· w ↦ without_letters c.args.a c.args.b c.args.c c.args.rest.now (λ d. omega arith)
+      | in_default-via-in-99·+in_default· w ↦ without_letters c.args.a c.args.b c.args.c c.args.rest.now (λ d. omega arith)
+      | in_default-via-in-108·+in-112·+in_default· w ↦ without_letters c.args.a c.args.b c.args.c c.args.rest.now (λ d. omega arith)
+      | in_default-via-in-108·+in_default· w ↦ without_letters c.args.a c.args.b c.args.c c.args.rest.now (λ d. omega arith)
+      | in_default-via-in_default· w ↦ without_letters c.args.a c.args.b c.args.c c.args.rest.now (λ d. omega arith)
     ]

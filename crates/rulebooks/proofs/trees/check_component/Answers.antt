@@ -10,14 +10,14 @@ returns-in-46 c = rw (relative_is c.args.component.now) (grind (arith, nat_tests
 pub returns-in-46·2 : goal.returns-in-46·2
 returns-in-46·2 c = rw (relative_is c.args.component.now) (grind (arith, nat_tests))
 
-pub returns-in-default : goal.returns-in-default
-returns-in-default c = rw (relative_is c.args.component.now) (grind (arith, nat_tests))
+pub returns-in_default : goal.returns-in_default
+returns-in_default c = rw (relative_is c.args.component.now) (grind (arith, nat_tests))
 
-pub returns-in-default·2 : goal.returns-in-default·2
-returns-in-default·2 c = rw (relative_is c.args.component.now) (grind (arith, nat_tests))
+pub returns-in_default·2 : goal.returns-in_default·2
+returns-in_default·2 c = rw (relative_is c.args.component.now) (grind (arith, nat_tests))
 
-pub returns-in-default·3 : goal.returns-in-default·3
-returns-in-default·3 c = rw (relative_is c.args.component.now) (grind (arith, nat_tests))
+pub returns-in_default·3 : goal.returns-in_default·3
+returns-in_default·3 c = rw (relative_is c.args.component.now) (grind (arith, nat_tests))
 
-pub returns-in-default·4 : goal.returns-in-default·4
-returns-in-default·4 c = rw (relative_is c.args.component.now) (grind (arith, nat_tests))
+pub returns-in_default·4 : goal.returns-in_default·4
+returns-in_default·4 c = rw (relative_is c.args.component.now) (grind (arith, nat_tests))

@@ -6,5 +6,5 @@ use Rattle.protections.proofs.keys.Cursor.new.Goals as goal
 pub returns : goal.returns
 returns g c =
     let s = c.args.component.now in
-    let bytes = All-from_get_or (λ b. b < 256) s 0 (λ i h. omega (arith, c.type-inv.component i)) in
+    let bytes = All-from_get_or (λ b. b < 256) s 0 (λ i h. omega (arith, c.type_inv.component i)) in
     record { numbers = c.start-rest.ensures; bound = g.met.P.Keyed.within c.args.protection.now s bytes }

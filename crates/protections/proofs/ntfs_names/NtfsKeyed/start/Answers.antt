@@ -5,4 +5,4 @@ use Rattle.protections.proofs.ntfs_names.NtfsKeyed.start.Goals as goal
 
 pub returns : goal.returns
 unfolding ntfs_key
-returns c = ap lowered (c.without-end.ensures ∙ ap (trimmed (codes " .")) c.up-to.ensures)
+returns c = ap lowered (c.without_end.ensures ∙ ap (trimmed (codes " .")) c.up_to.ensures)

@@ -3,14 +3,14 @@ use Rattle.protections.specs.Rules.{windows_rule}
 use Rattle.protections.proofs.Equal.{first_rule, second_rule, no_rule}
 use Rattle.protections.proofs.windows_names.WindowsNamesProtection.verdict.Goals as goal
 
-pub returns-then-one-of : goal.returns-then-one-of
+pub returns-then-one_of : goal.returns-then-one_of
 unfolding windows_rule
-returns-then-one-of c = first_rule _ _ 22 23 c.if-one-of.ensures
+returns-then-one_of c = first_rule _ _ 22 23 c.if-one_of.ensures
 
-pub returns-then-has-prefix : goal.returns-then-has-prefix
+pub returns-then-has_prefix : goal.returns-then-has_prefix
 unfolding windows_rule
-returns-then-has-prefix c = second_rule _ _ 22 23 c.if-one-of.ensures c.if-has-prefix.ensures
+returns-then-has_prefix c = second_rule _ _ 22 23 c.if-one_of.ensures c.if-has_prefix.ensures
 
 pub returns : goal.returns
 unfolding windows_rule
-returns c = no_rule _ _ 22 23 c.if-one-of.ensures c.if-has-prefix.ensures
+returns c = no_rule _ _ 22 23 c.if-one_of.ensures c.if-has_prefix.ensures
