@@ -3,6 +3,9 @@ use Rattle.std.proofs.Common.{◌≡◌, ℕ, ◌+◌, ◌<◌, ◌≤◌, Bool,
 use Rattle.std.proofs.lemmas.Bool.Decides.{nat_tests}
 use Rattle.std.proofs.lemmas.Bool.{eqb-true, eqb-false, eq-eqb, ne_eqb, and_parts, and_from, true≢false, false≢true}
 use Rattle.std.proofs.lemmas.List.{at_drop_more, at_drop_all}
+use Rattle.protections.specs.declared.rules.Mode.{Mode}
+use Rattle.protections.specs.declared.rules.Mode.TheVariants.{Symlink}
+use Rattle.protections.specs.Rules.{guarded, linked}
 use Rattle.protections.specs.Words.{equals, some, Takes}
 
 pub equals_refl : (xs : List ℕ) → equals xs xs ≡ true
@@ -115,3 +118,8 @@ module _ (b d : Bool) (m n : ℕ) where
 
 pub two_rules : (b c d e : Bool) (m n : ℕ) → b ≡ c → d ≡ e → cond b (Some m) (cond d (Some n) None) ≡ cond c (Some m) (cond e (Some n) None)
 two_rules b c d e m n p q = rw (p, q)
+
+-- The test for a link may stand in the second test too.
+pub guarded_by : (g h b x : Bool) (mode : Option Mode) → g ≡ h → b ≡ (linked mode && x) → guarded g b mode ≡ guarded h x mode
+guarded_by g h b x None p q = rw p
+guarded_by g h b x (Some Symlink) p q = rw (p, q)

@@ -5,7 +5,7 @@ use Rattle.protections.specs.Words.{some}
 use Rattle.protections.specs.Keys.{cut_name}
 use Rattle.protections.proofs.Devices.{console, console_in, console_out}
 use Rattle.protections.proofs.windows_devices.past_console.Goals as goal
-use Rattle.protections.proofs.windows_devices.past_console.Goals.{in_default-via-then-rest-lt1, in_default-via-else-rest-lt1+in_default·}
+use Rattle.protections.proofs.windows_devices.past_console.Goals.{in_default-via-then-rest-lt1, in_default-via-else-rest-lt1+in_default-1}
 
 pub past_name-requires : goal.past_name-requires
 unfolding some cut_name
@@ -27,6 +27,6 @@ pub returns-in_default : goal.returns-in_default
 returns-in_default c =
     elim c.in_default.branch [
       | in_default-via-then-rest-lt1 w ↦ console c.args.rest.now _ (λ l e. grind (arith, nat_tests)) (λ l e. grind (arith, nat_tests)) refl
-      | in_default-via-else-rest-lt1+in_default· w ↦
+      | in_default-via-else-rest-lt1+in_default-1 w ↦
           console c.args.rest.now _ (λ l e. grind (arith, nat_tests)) (λ l e. grind (arith, nat_tests)) refl
     ]

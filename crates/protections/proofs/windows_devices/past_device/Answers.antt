@@ -4,7 +4,7 @@ use Rattle.protections.specs.Words.{equals}
 use Rattle.protections.specs.Names.{continued}
 use Rattle.protections.proofs.Devices.{with_letters, without_letters, alone, numbered_com, numbered_lpt}
 use Rattle.protections.proofs.windows_devices.past_device.Goals as goal
-use Rattle.protections.proofs.windows_devices.past_device.Goals.{in_default-via-in-97·+in-117·+in_default·, in_default-via-in-97·+in_default·, in_default-via-in-110·+in-117·+in_default·, in_default-via-in-110·+in_default·, in_default-via-in-112·+in-114·+in_default·, in_default-via-in-112·+in_default·, in_default-via-in-99·+in-111·+in_default·, in_default-via-in-99·+in_default·, in_default-via-in-108·+in-112·+in_default·, in_default-via-in-108·+in_default·, in_default-via-in_default·}
+use Rattle.protections.proofs.windows_devices.past_device.Goals.{in_default-via-in-97+in-117+in_default, in_default-via-in-97+in_default, in_default-via-in-110+in-117+in_default, in_default-via-in-110+in_default, in_default-via-in-112+in-114+in_default, in_default-via-in-112+in_default, in_default-via-in-99+in-111+in_default, in_default-via-in-99+in_default, in_default-via-in-108+in-112+in_default, in_default-via-in-108+in_default, in_default-via-in_default}
 
 pub returns-in-97-eq117-eq120 : goal.returns-in-97-eq117-eq120
 unfolding continued equals
@@ -45,15 +45,15 @@ returns-in-108-eq112-eq116 c =
 pub returns-in_default : goal.returns-in_default
 returns-in_default c =
     elim c.in_default.branch [
-      | in_default-via-in-97·+in-117·+in_default· w ↦ without_letters c.args.a c.args.b c.args.c c.args.rest.now (λ d. omega arith)
-      | in_default-via-in-97·+in_default· w ↦ without_letters c.args.a c.args.b c.args.c c.args.rest.now (λ d. omega arith)
-      | in_default-via-in-110·+in-117·+in_default· w ↦ without_letters c.args.a c.args.b c.args.c c.args.rest.now (λ d. omega arith)
-      | in_default-via-in-110·+in_default· w ↦ without_letters c.args.a c.args.b c.args.c c.args.rest.now (λ d. omega arith)
-      | in_default-via-in-112·+in-114·+in_default· w ↦ without_letters c.args.a c.args.b c.args.c c.args.rest.now (λ d. omega arith)
-      | in_default-via-in-112·+in_default· w ↦ without_letters c.args.a c.args.b c.args.c c.args.rest.now (λ d. omega arith)
-      | in_default-via-in-99·+in-111·+in_default· w ↦ without_letters c.args.a c.args.b c.args.c c.args.rest.now (λ d. omega arith)
-      | in_default-via-in-99·+in_default· w ↦ without_letters c.args.a c.args.b c.args.c c.args.rest.now (λ d. omega arith)
-      | in_default-via-in-108·+in-112·+in_default· w ↦ without_letters c.args.a c.args.b c.args.c c.args.rest.now (λ d. omega arith)
-      | in_default-via-in-108·+in_default· w ↦ without_letters c.args.a c.args.b c.args.c c.args.rest.now (λ d. omega arith)
-      | in_default-via-in_default· w ↦ without_letters c.args.a c.args.b c.args.c c.args.rest.now (λ d. omega arith)
+      | in_default-via-in-97+in-117+in_default w ↦ without_letters c.args.a c.args.b c.args.c c.args.rest.now (λ d. omega arith)
+      | in_default-via-in-97+in_default w ↦ without_letters c.args.a c.args.b c.args.c c.args.rest.now (λ d. omega arith)
+      | in_default-via-in-110+in-117+in_default w ↦ without_letters c.args.a c.args.b c.args.c c.args.rest.now (λ d. omega arith)
+      | in_default-via-in-110+in_default w ↦ without_letters c.args.a c.args.b c.args.c c.args.rest.now (λ d. omega arith)
+      | in_default-via-in-112+in-114+in_default w ↦ without_letters c.args.a c.args.b c.args.c c.args.rest.now (λ d. omega arith)
+      | in_default-via-in-112+in_default w ↦ without_letters c.args.a c.args.b c.args.c c.args.rest.now (λ d. omega arith)
+      | in_default-via-in-99+in-111+in_default w ↦ without_letters c.args.a c.args.b c.args.c c.args.rest.now (λ d. omega arith)
+      | in_default-via-in-99+in_default w ↦ without_letters c.args.a c.args.b c.args.c c.args.rest.now (λ d. omega arith)
+      | in_default-via-in-108+in-112+in_default w ↦ without_letters c.args.a c.args.b c.args.c c.args.rest.now (λ d. omega arith)
+      | in_default-via-in-108+in_default w ↦ without_letters c.args.a c.args.b c.args.c c.args.rest.now (λ d. omega arith)
+      | in_default-via-in_default w ↦ without_letters c.args.a c.args.b c.args.c c.args.rest.now (λ d. omega arith)
     ]

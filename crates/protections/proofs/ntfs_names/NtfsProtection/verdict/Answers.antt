@@ -3,7 +3,7 @@ use Rattle.std.proofs.Common.{refl, ◌∙◌}
 use Rattle.protections.specs.Words.{some}
 use Rattle.protections.specs.Keys.{cut_key, cut_name, ntfs_key}
 use Rattle.protections.specs.Rules.{ntfs_rule}
-use Rattle.protections.proofs.Equal.{both_first, both_second, two_rules}
+use Rattle.protections.proofs.Equal.{both_first, both_second, guarded_by}
 use Rattle.protections.proofs.Told.{short_decides}
 use Rattle.protections.proofs.ntfs_names.NtfsProtection.verdict.Goals as goal
 use Rattle.protections.proofs.ntfs_names.NtfsProtection.verdict.Goals.{then-is_link, else-is_link}
@@ -18,7 +18,7 @@ returns c =
     record {
       value =
           c.guard.ensures
-          ∙ two_rules _ _ _ _ 26 27 c.cut_named_among.ensures
+          ∙ guarded_by _ _ _ _ c.args.mode c.cut_named_among.ensures
           (elim c.if-is_link.branch [
             | then-is_link w ↦ both_second _ _ _ w.if-is_link.ensures (w.modules-is ∙ w.is_modules-modules.ensures)
             | else-is_link w ↦ both_first _ _ _ w.if-is_link.ensures (w.modules-is ∙ w.if-is_link.false)

@@ -1,7 +1,7 @@
 -- The verdict is the rule's.
 use Rattle.std.proofs.Common.{◌∙◌}
 use Rattle.protections.specs.Rules.{plain_rule}
-use Rattle.protections.proofs.Equal.{both_first, both_second, two_rules}
+use Rattle.protections.proofs.Equal.{both_first, both_second, guarded_by}
 use Rattle.protections.proofs.plain_names.PlainProtection.verdict.Goals as goal
 use Rattle.protections.proofs.plain_names.PlainProtection.verdict.Goals.{then-is_link, else-is_link}
 
@@ -9,7 +9,7 @@ pub returns : goal.returns
 unfolding plain_rule
 returns c =
     c.guard.ensures
-    ∙ two_rules _ _ _ _ 26 27 c.named.ensures
+    ∙ guarded_by _ _ _ _ c.args.mode c.named.ensures
     (elim c.if-is_link.branch [
       | then-is_link w ↦ both_second _ _ _ w.if-is_link.ensures (w.modules-is ∙ w.named-modules.ensures)
       | else-is_link w ↦ both_first _ _ _ w.if-is_link.ensures (w.modules-is ∙ w.if-is_link.false)
