@@ -7,23 +7,23 @@ use Rattle.handling.specs.Report.{line_by, line_of, kept_by}
 use Rattle.handling.proofs.Reporting.{line_refused, kept_refused}
 use Rattle.handling.proofs.add_line.Goals as goal
 
-pub returns-in-ok-add-kept : goal.returns-in-ok-add-kept
+pub returns-in_ok-add_kept-in-Ok : goal.returns-in_ok-add_kept-in-Ok
 unfolding line_of
-returns-in-ok-add-kept c =
+returns-in_ok-add_kept-in-Ok c =
     let a = c.in-Ok.ensures.answer in
     record {
-      adds = c.in-ok-add-kept.ensures ∙ ap (λ x. vec_items c.args.report.now ++ line_by x c.args.text.now) a;
+      adds = c.in_ok-add_kept-in-Ok.ensures ∙ ap (λ x. vec_items c.args.report.now ++ line_by x c.args.text.now) a;
       counts = ap kept_by a;
     }
 
-pub returns-in-ok-add-mended : goal.returns-in-ok-add-mended
+pub returns-in_ok-add_mended-in-Err : goal.returns-in_ok-add_mended-in-Err
 unfolding line_of
-returns-in-ok-add-mended c =
+returns-in_ok-add_mended-in-Err c =
     let a = c.in-Err.ensures.answer in
     let n : c.number.result ≡ number_of (refusal c.in-Err.fault) = c.number.ensures in
     record {
       adds =
-          (rw n at c.in-ok-add-mended.ensures)
+          (rw n at c.in_ok-add_mended-in-Err.ensures)
           ∙ ap (λ x. vec_items c.args.report.now ++ x)
           (line_refused (refusal c.in-Err.fault) c.args.text.now (error_never c.in-Err.fault) ∙ ap (λ x. line_by x c.args.text.now) a);
       counts = kept_refused (refusal c.in-Err.fault) (error_never c.in-Err.fault) ∙ ap kept_by a;

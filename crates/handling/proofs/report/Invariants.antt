@@ -8,10 +8,10 @@ use Rattle.handling.proofs.report.Given as goal
 abbrev pub invariant-loop-line : goal.invariant-loop-line
 invariant-loop-line l =
     (vec_items l.report ++ flat_map line_of (lines l.rest) ≡ flat_map line_of (lines l.input))
-    × (l.line-count + length (lines l.rest) ≡ length (lines l.input))
-    × (l.kept-count + kept (lines l.rest) ≡ kept (lines l.input))
-    × (l.line-count + length l.rest ≤ length l.input)
-    × (l.kept-count ≤ l.line-count)
+    × (l.line_count + length (lines l.rest) ≡ length (lines l.input))
+    × (l.kept_count + kept (lines l.rest) ≡ kept (lines l.input))
+    × (l.line_count + length l.rest ≤ length l.input)
+    × (l.kept_count ≤ l.line_count)
 
 abbrev pub decreases-loop-line : goal.decreases-loop-line
 decreases-loop-line l = length l.rest
