@@ -1,10 +1,7 @@
 -- Bytes below 0x80 are their own code points.
-use Rattle.std.proofs.Common.{◌≡◌, ℕ, ◌<◌, true, List, [], ◌∷◌, map, drop, Some, sym, refl, ap, ◌∙◌, subst, arith}
+use Rattle.std.proofs.Common.{◌≡◌, ℕ, ◌<◌, true, List, [], ◌∷◌, map, drop, Some, refl, ap, ◌∙◌, subst, arith}
 use Rattle.std.specs.List.{common_prefix_len, AllByRecursion as All}
-use Rattle.std.proofs.lemmas.Bool.Decides.{nat_tests}
-use Rattle.characters.specs.declared.Part.{Part}
 use Rattle.characters.specs.declared.Part.TheVariants.{Character}
-use Rattle.characters.specs.declared.Range.{Range}
 use Rattle.characters.specs.Table.{table, within, following_of, ◌to◌}
 use Rattle.characters.specs.Standard.{point, size}
 use Rattle.characters.specs.Reader.{part_by, next_part, parts, code_points}

@@ -1,16 +1,16 @@
 -- The Standard lays down one part only.
-use Rattle.std.proofs.Common.{◌≡◌, ℕ, zero, suc, ◌+◌, ◌<◌, ◌≤◌, Bool, true, false, cond, eqb, ◌⊎◌, List, [], ◌∷◌, ◌++◌, length, take, drop, Some, None, Option, sym, refl, ap, ◌∙◌, subst, inl, inr, one-add, arith}
+use Rattle.std.proofs.Common.{◌≡◌, ℕ, zero, suc, ◌+◌, ◌<◌, ◌≤◌, Bool, true, false, cond, eqb, ◌⊎◌, List, [], ◌∷◌, ◌++◌, length, take, Some, None, Option, sym, refl, ap, ◌∙◌, inl, inr, one-add, arith}
 use Rattle.std.specs.List.{common_prefix_len}
 use Rattle.std.proofs.lemmas.List.{length-take-le}
 use Rattle.std.proofs.lemmas.List.Sums.{common_prefix_len-le}
-use Rattle.std.proofs.lemmas.Bool.{eqb-true, eqb-false, eq-eqb, ne_eqb, cases_order}
+use Rattle.std.proofs.lemmas.Bool.{eqb-true, eqb-false, eq-eqb, cases_order}
 use Rattle.characters.specs.declared.Range.{Range}
 use Rattle.characters.specs.declared.Part.{Part}
 use Rattle.characters.specs.declared.Part.TheVariants.{Character, Replaced}
-use Rattle.characters.specs.Table.{table, EachWithin, WellFormed, within, following_of}
+use Rattle.characters.specs.Table.{table, EachWithin, within, following_of}
 use Rattle.characters.specs.Standard.{code_point_of, Begins, IsCharacter, IsReplaced, IsPart}
 use Rattle.characters.specs.Reader.{part_by, next_part, first_part}
-use Rattle.characters.proofs.Rows.{common_in, inside, full, no_longer, picks, picked, none_empty, table_ascends}
+use Rattle.characters.proofs.Rows.{common_in, inside, full, no_longer, picks, picked, table_ascends}
 use Rattle.characters.proofs.Steps.{begins, tail_of}
 
 -- as many bytes as ranges

@@ -1,9 +1,9 @@
 -- What the table and the test of a sequence against ranges say of one another.
-use Rattle.std.proofs.Common.{◌≡◌, ℕ, zero, suc, ◌+◌, ◌<◌, ◌≤◌, Bool, true, false, cond, ◌&&◌, eqb, leb, ◌⊎◌, List, [], ◌∷◌, ◌++◌, map, length, take, drop, Some, None, Option, sym, refl, ap, ◌∙◌, subst, inl, inr, one-add, arith}
+use Rattle.std.proofs.Common.{◌≡◌, ℕ, zero, suc, ◌+◌, ◌<◌, ◌≤◌, Bool, true, false, ◌⊎◌, List, [], ◌∷◌, ◌++◌, map, length, take, drop, Some, sym, refl, ◌∙◌, subst, inl, inr, one-add, arith}
 use Rattle.std.specs.List.{common_prefix_len}
 use Rattle.std.proofs.lemmas.Bool.Decides.{nat_tests}
 use Rattle.characters.specs.declared.Range.{Range}
-use Rattle.characters.specs.Table.{Row, row, table, EachWithin, Follows, SomeRow, WellFormed, within, following_of}
+use Rattle.characters.specs.Table.{Row, table, EachWithin, Follows, SomeRow, within, following_of}
 
 -- the test of a range, both ways
 pub inside : (b : ℕ) (r : Range) → r.low ≤ b → b ≤ r.high → within b r ≡ true

@@ -1,5 +1,5 @@
 -- The part at the front of a byte string is the one that the Standard lays down.
-use Rattle.std.proofs.Common.{◌≡◌, ℕ, zero, suc, ◌+◌, ◌-◌, ◌<◌, ◌≤◌, Bool, true, false, cond, eqb, ◌⊎◌, List, [], ◌∷◌, ◌++◌, map, length, get_or, take, drop, Some, None, Option, sym, refl, ap, ◌∙◌, subst, inl, inr, one-add, arith, length-drop}
+use Rattle.std.proofs.Common.{◌≡◌, ℕ, zero, suc, ◌+◌, ◌-◌, ◌<◌, ◌≤◌, Bool, true, false, cond, eqb, List, [], ◌∷◌, ◌++◌, map, length, get_or, take, drop, Some, None, Option, sym, refl, ap, ◌∙◌, subst, inl, inr, one-add, arith, length-drop}
 use Rattle.std.specs.List.{flat_map, common_prefix_len}
 use Rattle.std.proofs.lemmas.List.{length-map, take_all, take-append-drop, take_rest}
 use Rattle.std.proofs.lemmas.List.Sums.{common_prefix_len-le}

@@ -1,4 +1,6 @@
 //! Tests of characters, protections and path components, with examples from outside.
+#![tactic(auto)]
+
 #[cfg(test)]
 mod characters_read;
 #[cfg(test)]

@@ -1,6 +1,6 @@
 -- Answers as numbers, and numbers as settings.
 use Rattle.std.specs.Prelude.{ℕ, Bool, cond, not, Some, None, Option, ◌==◌}
-use Rattle.tag.specs.Answers.{Answer, Value}
+use Rattle.tag.specs.Answers.{Answer}
 use Rattle.tag.specs.Answers.Answer.{allowed, refused}
 use Rattle.tag.specs.Answers.Value.{nothing, byte, name}
 use Rattle.mending.specs.Mender.{Outcome}

@@ -1,4 +1,6 @@
 //! The seven ported calls for C and Rust, on numbers and byte slices.
+#![tactic(auto)]
+
 ghost use Rattle.std.specs.Prelude.{◌≡◌, length, if◌then◌else◌};
 ghost use Rattle.tag.specs.Errors.{number_of, refusal as tag-refusal};
 ghost use Rattle.tag.specs.Names.{tag_name};

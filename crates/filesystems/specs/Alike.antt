@@ -1,10 +1,10 @@
 -- Equal lists, and the tests that tell them.
-use Rattle.std.specs.Prelude.{◌≡◌, ℕ, Bool, true, false, ◌||◌, ◌⊎◌, List, [], ◌∷◌, Decides, ◌≢◌, refl}
-use Rattle.std.proofs.Common.{sym, ap, subst, ◌∙◌, inl, inr, arith}
+use Rattle.std.specs.Prelude.{◌≡◌, ℕ, Bool, true, false, ◌||◌, ◌⊎◌, List, [], ◌∷◌, Decides, ◌≢◌}
+use Rattle.std.proofs.Common.{sym, subst, ◌∙◌, inl, inr, arith}
 use Rattle.std.proofs.lemmas.Bool.Decides.{same_from_decides}
 use Rattle.std.proofs.lemmas.Bool.{or_cases, or_left, or_right}
 use Rattle.protections.specs.Words.{equals}
-use Rattle.protections.proofs.Equal.{equals_refl, equals_true, equals_decides}
+use Rattle.protections.proofs.Equal.{equals_true, equals_decides}
 use Rattle.filesystems.specs.Words.{Key, Among}
 
 -- a list that begins with a key is not empty

@@ -1,19 +1,18 @@
 -- The declared pairs as a list: what is kept, added and found.
-use Rattle.std.specs.Prelude.{◌≡◌, ℕ, ◌+◌, ◌-◌, ◌<◌, ◌≤◌, Bool, true, false, cond, ◌&&◌, ◌||◌, ◌⊎◌, List, [], ◌∷◌, ◌++◌, map, length, take, drop, Decides, slice_index_or, slice_set, refl}
+use Rattle.std.specs.Prelude.{◌≡◌, ℕ, ◌+◌, ◌<◌, ◌≤◌, Bool, true, false, ◌&&◌, ◌||◌, List, [], ◌∷◌, ◌++◌, map, length, take, drop, Decides, slice_index_or, slice_set, refl}
 use Rattle.std.proofs.Common.{sym, ap, subst, ◌∙◌, inl, inr, arith}
 use Rattle.std.specs.List.{ContainsAt as Has, AllByRecursion as All}
 use Rattle.std.proofs.lemmas.List.{length-map, length-take, length-take-le, take_at, get_or-map, take_more_set, map_push}
-use Rattle.std.proofs.lemmas.Bool.{and_parts, and_from, or_cases, or_left, or_right, lt-ltb, le-ltb, lt-leb, le-leb}
-use Rattle.std.proofs.lemmas.Bool.Decides.{Decides-by_or, Decides-or, Decides-like}
+use Rattle.std.proofs.lemmas.Bool.{and_parts, and_from, lt-ltb, le-ltb, lt-leb, le-leb}
+use Rattle.std.proofs.lemmas.Bool.Decides.{Decides-by_or, Decides-or}
 use Rattle.protections.specs.Words.{equals, some}
 use Rattle.protections.proofs.Equal.{equals_true, equals_refl, equals_decides, some_yes, some_no, some_end}
 use Rattle.filesystems.specs.declared.storage.Word.{Word}
 use Rattle.filesystems.specs.declared.storage.Pair.{Pair}
 use Rattle.filesystems.specs.declared.storage.DeclaredBottom.{DeclaredBottom}
 use Rattle.filesystems.specs.Pairs.{Pairs, in_order, confused, Confused, Within}
-use Rattle.filesystems.specs.Refusal.{Answer, accepted, refused, declare_rule}
+use Rattle.filesystems.specs.Refusal.{accepted, refused, declare_rule}
 use Rattle.filesystems.specs.Kept.{bytes_of, pair_of, declared_pairs}
-use Rattle.filesystems.specs.Alike.{equals_from, equals_sym}
 
 -- what is written at the front of the room is the component
 pub filled : (s t zs : List ℕ) (n : ℕ) → s ≡ t → n ≡ length t → take n (s ++ zs) ≡ t

@@ -1,5 +1,5 @@
 -- What declaring a pair answers, and which pairs are declared then.
-use Rattle.std.specs.Prelude.{ℕ, Bool, cond, ◌||◌, List, [], ◌∷◌, ◌++◌, length, Ok, Err, codes, Result, nat_le, nat_lt}
+use Rattle.std.specs.Prelude.{ℕ, cond, ◌||◌, List, [], ◌∷◌, ◌++◌, length, Ok, Err, codes, Result, nat_le, nat_lt}
 use Rattle.filesystems.specs.declared.refusal.DeclareError.{DeclareError}
 use Rattle.filesystems.specs.declared.refusal.DeclareError.TheVariants.{ComponentTooLong, TooManyPairs}
 use Rattle.filesystems.specs.Pairs.{Pairs}

@@ -1,4 +1,6 @@
 //! File systems: which components they refuse, and which they take for one another.
+#![tactic(auto)]
+
 mod interface;
 mod layers;
 mod piles;

@@ -1,4 +1,6 @@
 //! The program `handles`: reads texts, one to a line, from standard input, and writes the report of their handles.
+#![tactic(auto)]
+
 use std::io::{Read, Write};
 
 fn run(rt: &HostRuntime) -> anyhow::Result<()> {

@@ -1,4 +1,6 @@
 //! A list of texts, one to a line, turned into handles: the report as a value.
+#![tactic(auto)]
+
 ghost use Rattle.std.specs.Prelude.{◌≡◌, ◌≤◌, [], ◌∷◌, ◌++◌, IfOk, if◌then◌else◌, string_bytes, codes, decimal, OnOk};
 ghost use Rattle.mending.specs.Mender.{mended};
 ghost use Rattle.reference.specs.Names.{partial_name};

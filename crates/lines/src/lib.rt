@@ -1,4 +1,6 @@
 //! The lines of a text, one after another.
+#![tactic(auto)]
+
 ghost use Rattle.std.specs.Prelude.{◌≡◌, ◌<◌, [], ◌∷◌, length, MatchOption};
 ghost use Rattle.lines.specs.Lines.{lines};
 

@@ -1,5 +1,5 @@
 -- Adding a component to the text in the buffer.
-use Rattle.std.proofs.Common.{◌≡◌, ℕ, ◌+◌, ◌-◌, ◌<◌, ◌≤◌, List, [], ◌∷◌, ◌++◌, length, get_or, take, drop, set, sym, refl, ap, ◌∙◌, arith}
+use Rattle.std.proofs.Common.{◌≡◌, ℕ, ◌+◌, ◌-◌, ◌<◌, ◌≤◌, List, [], ◌∷◌, ◌++◌, length, get_or, take, drop, set, sym, ap, ◌∙◌, arith}
 use lib.Seq.{take-set-lt, take-append-add}
 use Rattle.std.specs.List.{between}
 use Rattle.std.proofs.lemmas.List.{append_assoc, drop_at, length-append, length-take, length_push, length-take-le, set-append_left, set_at, take_more, take-take}

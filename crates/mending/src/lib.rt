@@ -1,4 +1,6 @@
 //! The mender: makes a handle, an allowed partial name, of any bytes, in a caller's buffer.
+#![tactic(auto)]
+
 ghost use Rattle.std.specs.Prelude.{◌≡◌, ℕ, ◌+◌, ◌-◌, ◌^◌, ◌<◌, ◌≤◌, [], ◌++◌, length, take, replicate, ◌≢◌};
 ghost use Rattle.std.specs.Option.{option_to_list};
 ghost use Rattle.tag.specs.Components.{components};

@@ -1,5 +1,5 @@
 -- The plain protection need not be asked where HFS+ or NTFS is on.
-use Rattle.std.proofs.Common.{◌≡◌, ℕ, Bool, true, false, not, ◌&&◌, ◌||◌, List, Some, None, Option, sym, refl, ap, ◌∙◌}
+use Rattle.std.proofs.Common.{◌≡◌, ℕ, Bool, true, false, not, ◌&&◌, ◌||◌, List, Some, None, Option, refl, ap}
 use Rattle.protections.specs.declared.rules.Mode.{Mode}
 use Rattle.protections.specs.Rules.{windows_rule, hfs_rule, ntfs_rule, device_rule, plain_rule}
 use Rattle.protections.proofs.Agree.{hfs_covers, ntfs_covers}

@@ -1,7 +1,7 @@
 -- The ways through the rules of `component`.
-use Rattle.std.proofs.Common.{◌≡◌, ℕ, Bool, true, false, eqb, List, length, Some, None, Option, sym, refl, ap, ◌∙◌}
+use Rattle.std.proofs.Common.{◌≡◌, ℕ, Bool, true, false, eqb, List, length, Some, None, Option, ap, ◌∙◌}
 use Rattle.protections.specs.Words.{among}
-use Rattle.path.specs.Answer.{Answer, allowed, refused}
+use Rattle.path.specs.Answer.{allowed, refused}
 use Rattle.path.specs.Rule.{first_of, if_on, is_relative, checked}
 
 pub here : (n : ℕ) (a r : Option ℕ) → Some n ≡ a → Some n ≡ first_of a r

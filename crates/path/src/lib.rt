@@ -1,4 +1,6 @@
 //! Whether a path component is safe to write into a working tree.
+#![tactic(auto)]
+
 ghost use Rattle.std.specs.Prelude.{◌≡◌, true, ◌&&◌, IfOk, Some, Decides};
 ghost use Rattle.std.specs.List.{ContainsAt as Has};
 ghost use Rattle.protections.specs.Keys.{device_key};

@@ -1,17 +1,16 @@
 -- What the plain protection refuses, HFS+ and NTFS refuse by the same number.
-use Rattle.std.proofs.Common.{◌≡◌, ℕ, ◌-◌, ◌<◌, Bool, true, false, cond, not, ◌&&◌, ◌||◌, eqb, ◌⊎◌, List, [], ◌∷◌, ◌++◌, map, reverse, length, take, Some, None, codes, filter, Option, sym, refl, ap, ◌∙◌, subst, inl, inr, arith}
+use Rattle.std.proofs.Common.{◌≡◌, ℕ, ◌-◌, ◌<◌, Bool, true, false, cond, not, ◌&&◌, ◌⊎◌, List, [], ◌∷◌, ◌++◌, reverse, length, take, Some, None, codes, filter, Option, sym, refl, ap, ◌∙◌, subst, inl, inr, arith}
 use Rattle.std.specs.Char.{to_ascii_lowercase}
 use Rattle.std.specs.List.{prefix_len, suffix_len, AllByRecursion as All}
 use Rattle.std.proofs.lemmas.List.{take-map, length-map, reverse-append, map-append}
 use Rattle.std.proofs.lemmas.Bool.Decides.{nat_tests}
-use Rattle.characters.specs.Reader.{code_points}
 use Rattle.characters.proofs.Ascii.{ascii_points}
 use Rattle.protections.specs.declared.rules.Mode.{Mode}
 use Rattle.protections.specs.declared.rules.Mode.TheVariants.{Symlink}
-use Rattle.protections.specs.Words.{equals, some, among, listed}
+use Rattle.protections.specs.Words.{equals, some, among}
 use Rattle.protections.specs.Keys.{lowered, before, trimmed, ignored, hfs_key, ntfs_key}
-use Rattle.protections.specs.Names.{git, modules, ntfs_git, ntfs_modules, short_name}
-use Rattle.protections.specs.Rules.{linked, guarded, hfs_rule, ntfs_rule, plain_rule}
+use Rattle.protections.specs.Names.{git, modules}
+use Rattle.protections.specs.Rules.{linked, hfs_rule, ntfs_rule, plain_rule}
 use Rattle.protections.proofs.Equal.{equals_true}
 
 -- HFS+: a name of bytes below 0x80 has its small letters for its key

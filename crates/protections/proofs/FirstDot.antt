@@ -1,5 +1,5 @@
 -- The steps of a walk over the characters that HFS+ does not pass over.
-use Rattle.std.proofs.Common.{◌≡◌, ℕ, Bool, true, false, cond, not, eqb, List, [], ◌∷◌, map, get_or, Some, None, filter, Option, sym, refl, ap, ◌∙◌}
+use Rattle.std.proofs.Common.{◌≡◌, ℕ, true, false, not, eqb, List, [], ◌∷◌, map, get_or, Some, None, filter, Option, sym, refl, ap, ◌∙◌}
 use Rattle.std.specs.Char.{to_ascii_lowercase}
 use Rattle.characters.specs.declared.Part.{Part}
 use Rattle.characters.specs.Standard.{point}

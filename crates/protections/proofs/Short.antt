@@ -1,12 +1,12 @@
 -- The test for short names, on a name whose letters are not yet made small.
-use Rattle.std.proofs.Common.{◌≡◌, ℕ, zero, suc, ◌+◌, ◌-◌, ◌<◌, ◌≤◌, Bool, true, false, not, ◌&&◌, ◌||◌, eqb, leb, List, [], ◌∷◌, map, length, get_or, take, drop, sym, refl, ap, ◌∙◌, arith}
+use Rattle.std.proofs.Common.{◌≡◌, ℕ, zero, suc, ◌+◌, ◌-◌, ◌<◌, ◌≤◌, Bool, true, false, not, ◌&&◌, eqb, leb, List, [], ◌∷◌, length, get_or, take, drop, sym, refl, ap, ◌∙◌, arith}
 use Rattle.std.specs.Char.{to_ascii_lowercase}
 use Rattle.std.proofs.lemmas.List.{take_all, take-map, drop-map, drop_all, length-map, take_rest}
 use Rattle.std.proofs.lemmas.Bool.{eq-eqb, le-leb, and_right}
 use Rattle.std.proofs.lemmas.Bool.Decides.{nat_tests}
 use Rattle.protections.specs.Words.{equals, some}
 use Rattle.protections.specs.Keys.{lowered}
-use Rattle.protections.specs.Names.{short, digit, every_digit, numbered_by, short_at, short_name}
+use Rattle.protections.specs.Names.{short, digit, every_digit, numbered_by, short_at}
 use Rattle.protections.proofs.Equal.{some_yes, some_no, some_end}
 
 -- a tilde, a digit 1 to 9 and so many digits, as the code reads them

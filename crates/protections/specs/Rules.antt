@@ -1,5 +1,5 @@
 -- The verdict of each protection on a component and its mode: none, or a number.
-use Rattle.std.specs.Prelude.{ℕ, ◌-◌, Bool, true, false, cond, ◌&&◌, ◌||◌, List, [], length, Some, None, codes, Option, ◌==◌, nat_lt, slice_index}
+use Rattle.std.specs.Prelude.{ℕ, ◌-◌, Bool, true, false, cond, ◌&&◌, ◌||◌, List, length, Some, None, codes, Option, ◌==◌, nat_lt, slice_index}
 use Rattle.std.specs.Option.{option_map}
 use Rattle.characters.specs.Reader.{code_points}
 use Rattle.protections.specs.declared.rules.Mode.{Mode}

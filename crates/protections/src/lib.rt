@@ -1,4 +1,6 @@
 //! Five protections against names that a file system takes for others: their keys and their verdicts.
+#![tactic(auto)]
+
 mod cut_names;
 mod cuts;
 mod hfs_names;

@@ -1,7 +1,7 @@
 -- The number and the value of each error, and the answer that a result stands for.
 use Rattle.std.specs.Prelude.{◌≡◌, ℕ, ◌⊎◌, List, Some, None, Ok, Err, Option, Result}
 use Rattle.std.specs.Borrow.{Bor}
-use Rattle.tag.specs.Answers.{Answer, Value}
+use Rattle.tag.specs.Answers.{Answer}
 use Rattle.tag.specs.Answers.Answer.{allowed, refused}
 use Rattle.tag.specs.Answers.Value.{nothing, byte, name}
 use Rattle.tag.specs.Errors.{number_of}

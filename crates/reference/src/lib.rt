@@ -1,4 +1,6 @@
 //! Reference names: their errors, and the checks of partial, complete and branch names.
+#![tactic(auto)]
+
 ghost use Rattle.std.specs.Prelude.{◌≡◌, ◌≤◌, length, take, is_ok, IfOk, Decides};
 ghost use Rattle.std.specs.Str.{bytes_eq};
 ghost use Rattle.tag.specs.Answers.Answer.{allowed};

@@ -1,4 +1,6 @@
 //! The program `replay`: reads recorded answers of the ported crate, one to a line, and says how many the port gives too.
+#![tactic(auto)]
+
 mod calls;
 mod hex;
 

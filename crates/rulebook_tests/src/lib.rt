@@ -1,3 +1,5 @@
 //! Tests of the rulebooks, with examples from outside.
+#![tactic(auto)]
+
 #[cfg(test)]
 mod kinds_asked;

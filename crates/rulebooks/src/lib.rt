@@ -1,4 +1,6 @@
 //! Rulebooks: which byte strings are names, by kind, and which text a mending rulebook makes of any bytes.
+#![tactic(auto)]
+
 ghost use Rattle.std.specs.Prelude.{◌≡◌, ℕ, ◌≤◌, max, List, [], length, take, IfOk, IfErr, OnOk, ◌≢◌};
 ghost use Rattle.tag.specs.Components.{Among, components};
 ghost use Rattle.tag.specs.Errors as tag-errors;

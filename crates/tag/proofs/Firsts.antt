@@ -1,7 +1,7 @@
 -- Which of several checks decides.
-use Rattle.std.proofs.Common.{◌≡◌, sym, refl, ◌∙◌, subst}
+use Rattle.std.proofs.Common.{◌≡◌, sym, refl, subst}
 use Rattle.tag.specs.Answers.{Answer, first_of}
-use Rattle.tag.specs.Answers.Answer.{allowed, refused}
+use Rattle.tag.specs.Answers.Answer.{allowed}
 use Rattle.tag.specs.Errors.{refusal}
 use Rattle.tag.specs.declared.Error.{Error}
 use Rattle.tag.specs.declared.Error.TheVariants.{InvalidByte, StartsWithSlash, RepeatedSlash, RepeatedDot, LockFileSuffix, ReflogPortion, Asterisk, StartsWithDot, EndsWithDot, EndsWithSlash, Empty}

@@ -1,6 +1,6 @@
 -- The number and the value of each error, and the answer that a result stands for.
 use Rattle.std.specs.Prelude.{ℕ, Some, None, Ok, Err, Option, Result}
-use Rattle.tag.specs.Answers.{Answer, Value}
+use Rattle.tag.specs.Answers.{Answer}
 use Rattle.tag.specs.Answers.Answer.{allowed, refused}
 use Rattle.tag.specs.Answers.Value.{nothing, byte}
 use Rattle.tag.specs.declared.Error.{Error}

@@ -1,6 +1,6 @@
 -- Tag names: the answer for each byte string.
 use Rattle.std.specs.Prelude.{ℕ, cond, not, ◌&&◌, List, [], ◌∷◌, ◌++◌, length, ◌==◌, slice_index}
-use Rattle.tag.specs.Answers.{Answer, Value, first_of}
+use Rattle.tag.specs.Answers.{Answer, first_of}
 use Rattle.tag.specs.Answers.Answer.{allowed, refused}
 use Rattle.tag.specs.Answers.Value.{nothing, byte}
 use Rattle.tag.specs.Bytes.{invalid, last_byte, ends_in_lock}

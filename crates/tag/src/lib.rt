@@ -1,4 +1,6 @@
 //! Tag names: the check, its errors, and the scanner that reads a name byte by byte.
+#![tactic(auto)]
+
 ghost use Rattle.std.specs.Prelude.{◌≡◌, [], is_ok, IfOk, Decides};
 ghost use Rattle.tag.specs.Bytes.{ends_in_lock};
 ghost use Rattle.tag.specs.Components.{Splits, components};

@@ -1,9 +1,8 @@
 -- What `step` answers is the part that the definition has, which is the Standard's.
-use Rattle.std.proofs.Common.{◌≡◌, ◌<◌, [], length, get_or, Some, None, sym, ◌∙◌, subst, rules}
+use Rattle.std.proofs.Common.{◌≡◌, None, sym, ◌∙◌, subst, rules}
 use Rattle.std.proofs.lemmas.List.{nil_from_length}
 use Rattle.characters.specs.Standard.{Standard}
 use Rattle.characters.specs.Reader.{first_part}
-use Rattle.characters.specs.Table.{table, following_of}
 use Rattle.characters.proofs.Only.{only}
 use Rattle.characters.proofs.Steps.{standing, at_none, at_some, at_part}
 use Rattle.characters.proofs.step.Goals as goal

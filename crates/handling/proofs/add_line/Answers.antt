@@ -1,5 +1,5 @@
 -- The check's answer says which line it is.
-use Rattle.std.proofs.Common.{◌≡◌, ◌++◌, vec_items, decimal, sym, ap, ◌∙◌}
+use Rattle.std.proofs.Common.{◌≡◌, ◌++◌, vec_items, ap, ◌∙◌}
 use Rattle.tag.specs.Errors.{number_of}
 use Rattle.reference.specs.Errors.{refusal}
 use Rattle.reference.proofs.Manual.{error_never}

@@ -1,5 +1,5 @@
 -- The front of the buffer, cut to the length that the mender answered, is the text.
-use Rattle.std.proofs.Common.{◌≡◌, ◌≤◌, ◌++◌, length, take, drop, ◌∙◌, arith}
+use Rattle.std.proofs.Common.{◌++◌, length, drop, ◌∙◌, arith}
 use Rattle.std.proofs.lemmas.List.{take-append-le, take-take}
 use Rattle.handling.proofs.handle.Goals as goal
 

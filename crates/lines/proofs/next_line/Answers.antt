@@ -1,5 +1,5 @@
 -- A line ends at the first byte 10, or where there is none, at the end.
-use Rattle.std.proofs.Common.{◌≡◌, ◌+◌, ◌-◌, ◌<◌, List, [], ◌∷◌, length, take, drop, sym, ap, ◌∙◌, arith}
+use Rattle.std.proofs.Common.{◌≡◌, ◌+◌, ◌-◌, ◌<◌, [], length, take, drop, ◌∙◌, arith}
 use Rattle.std.proofs.lemmas.List.{drop_all, length-drop, nil_from_length, take_rest}
 use Rattle.std.proofs.lemmas.Bool.Decides.{nat_tests}
 use Rattle.lines.specs.Lines.{lines}

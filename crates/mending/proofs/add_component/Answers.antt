@@ -1,7 +1,6 @@
-use Rattle.std.proofs.Common.{◌≡◌, ◌+◌, ◌≤◌, ◌++◌, length, take, ap, ◌∙◌, arith}
+use Rattle.std.proofs.Common.{◌≡◌, ◌+◌, take, ◌∙◌, arith}
 use Rattle.std.proofs.lemmas.List.{append-nil}
 use Rattle.mending.specs.Mender.{heal}
-use Rattle.mending.specs.Steps.{add, gap}
 use Rattle.mending.proofs.Adding.{take_less, gap_bounds, between_short, adds_first, adds_more}
 use Rattle.mending.proofs.add_component.Goals as goal
 use Rattle.mending.proofs.add_component.Goals.{then-end-gt0, else-end-gt0}

@@ -1,8 +1,7 @@
 -- The first group of lines that refuses decides.
 use Rattle.std.proofs.Common.{[]}
 use Rattle.std.proofs.lemmas.Result.{err_from_is_err_and}
-use Rattle.tag.specs.Errors.{answer_of}
-use Rattle.tag.specs.Names.{opening, reads, closing, tag_name}
+use Rattle.tag.specs.Names.{opening, reads, tag_name}
 use Rattle.tag.proofs.Firsts.{first_refuses, first_passes}
 use Rattle.tag.proofs.check.Goals as goal
 

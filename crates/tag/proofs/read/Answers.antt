@@ -1,5 +1,5 @@
 -- Each turn reads one byte on.
-use Rattle.std.proofs.Common.{◌≡◌, ◌-◌, ◌<◌, true, false, length, get_or, take, sym, ap, ◌∙◌, arith}
+use Rattle.std.proofs.Common.{◌≡◌, ◌-◌, ◌<◌, false, length, get_or, take, sym, ap, ◌∙◌, arith}
 use Rattle.std.proofs.lemmas.List.{at_drop_all}
 use Rattle.tag.specs.Answers.Answer.{allowed}
 use Rattle.tag.specs.Bytes.{last_byte, ends_in_lock}

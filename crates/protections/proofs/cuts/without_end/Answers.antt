@@ -1,5 +1,5 @@
 -- The loop of `without_end` stops at the last byte that is not in the set, or at the start.
-use Rattle.std.proofs.Common.{sym, arith}
+use Rattle.std.proofs.Common.{sym}
 use Rattle.protections.proofs.Cut.{left_whole, left_more, left_stop, left_none}
 use Rattle.protections.proofs.cuts.without_end.Goals as goal
 use Rattle.protections.proofs.cuts.without_end.Goals.{then-loop-end-test+else-one_of, else-loop-end-test}

@@ -1,5 +1,5 @@
 -- The last byte, if there is one.
-use Rattle.std.proofs.Common.{◌≡◌, false, [], sym, ap, ◌∙◌, rules}
+use Rattle.std.proofs.Common.{sym, ap, rules}
 use Rattle.std.proofs.lemmas.List.{nil_from_length}
 use Rattle.protections.specs.Words.{some}
 use Rattle.protections.specs.Rules.{ends_illegally}

@@ -1,5 +1,5 @@
 -- The steps of the search.
-use Rattle.std.proofs.Common.{◌≡◌, ◌-◌, map, take, sym, refl, ap, ◌∙◌, arith}
+use Rattle.std.proofs.Common.{◌≡◌, ◌-◌, map, take, sym, ap, ◌∙◌, arith}
 use Rattle.filesystems.specs.declared.storage.DeclaredBottom.{DeclaredBottom}
 use Rattle.filesystems.specs.Kept.{pair_of, declared_pairs}
 use Rattle.filesystems.specs.Listing.{pair_found, pair_passed, pairs_ended}

@@ -1,7 +1,7 @@
 -- The loop: what is left of the pairs has this one just if the whole has.
-use Rattle.std.proofs.Common.{◌≡◌, map, take, drop}
+use Rattle.std.proofs.Common.{◌≡◌, drop}
 use Rattle.filesystems.specs.Pairs.{in_order}
-use Rattle.filesystems.specs.Kept.{pair_of, declared_pairs}
+use Rattle.filesystems.specs.Kept.{declared_pairs}
 use Rattle.filesystems.proofs.storage.DeclaredBottom.pairs_up.Given as goal
 
 abbrev pub invariant-loop-pair : goal.invariant-loop-pair

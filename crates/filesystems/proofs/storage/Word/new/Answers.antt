@@ -1,5 +1,5 @@
 -- The component stands at the front of the 32 bytes.
-use Rattle.std.proofs.Common.{arith, rules}
+use Rattle.std.proofs.Common.{rules}
 use Rattle.std.proofs.lemmas.List.{places}
 use Rattle.filesystems.specs.Listing.{filled}
 use Rattle.filesystems.proofs.storage.Word.new.Goals as goal

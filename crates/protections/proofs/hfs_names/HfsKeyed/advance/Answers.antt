@@ -1,5 +1,5 @@
 -- The next number of the key is the next character that is not passed over.
-use Rattle.std.proofs.Common.{sym, ◌∙◌}
+use Rattle.std.proofs.Common.{◌∙◌}
 use Rattle.protections.proofs.FirstDot.{hidden, shown, none_left}
 use Rattle.protections.proofs.hfs_names.HfsKeyed.advance.Goals as goal
 

@@ -1,5 +1,5 @@
 -- The key is read from where `start` says, and its numbers are code points since the component's are bytes.
-use Rattle.std.proofs.Common.{◌<◌, get_or, arith}
+use Rattle.std.proofs.Common.{◌<◌, arith}
 use Rattle.std.proofs.ByRecursion.{All-from_get_or}
 use Rattle.protections.proofs.keys.Cursor.new.Goals as goal
 
