@@ -3,10 +3,10 @@
 
 usage: python3 tools/respell.py [FOLDER]     FOLDER has crates/; the current folder by default
 
-Run it once, after port.py. It collects the names that specs/, the lemma files of proofs/ and the helpers beside answers define, and
-rewrites each of them, as a whole word, in the .antt files and in what the .rt files say outside strings and comments. Names of goals
-and steps, which Rattle makes, stay; so do names of src/ and all strings. It prints names that would fall together, and then changes
-nothing.
+Run it after port.py; a second run changes nothing. It collects the names that specs/, the lemma files of proofs/ and the helpers
+beside answers define, bind or import under another name, and rewrites each of them, as a whole word, in the .antt files and in what
+the .rt files say outside strings and comments. Names of goals and steps, which Rattle makes, stay; so do names of src/ and all strings.
+It prints the names that fall together. With --clashes it changes nothing, and prints each file that has a new name already.
 """
 
 import os
@@ -14,7 +14,9 @@ import re
 import sys
 
 WORD = r"[^\s(){}.;,@\"«»\[\]\\]+"
-DEFINED = re.compile(r"^\s*(?:(?:unfoldable|abbrev|pub)\s+)*(" + WORD + r")\s+:\s")
+DEFINED = re.compile(r"^\s*(?:(?:unfoldable|abbrev|pub)\s+)*(" + WORD + r")\s+:(?:\s|$)")
+ALIAS = re.compile(r"\bas (" + WORD + r")")
+IMPORT = re.compile(r"^(?:ghost )?(?:pub )?use [^{\n]*(?:\{([^}]*)\})?.*$", re.M)
 OPENED = re.compile(r"^\s*(?:pub\s+)?(?:data|record|ruleset)\s+(?:pub\s+)?(" + WORD + r")")
 GOAL = re.compile(r"^\s*(?:(?:abbrev|pub)\s+)*(" + WORD + r")\s+:\s+(?:goal|need|given)\.")
 # Antt: comments and strings stay as they are.
@@ -67,8 +69,30 @@ def own_names(top):
     return found, goals
 
 
+def other_names(top):
+    """The names beside: those that a `use` line gives with `as`, and the bound ones of specs/ and of the lemma files."""
+    found = {}
+    for path in files(top, (".antt", ".rt")):
+        text = read(path)
+        text = re.sub(r"--[^\n]*|\"(?:[^\"\\]|\\.)*\"", "", text) if path.endswith(".antt") else text
+        lines = [m[0] for m in IMPORT.finditer(text) if path.endswith(".antt") or m[0].startswith("ghost")]
+        for line in lines:
+            for name in ALIAS.findall(line):
+                found.setdefault(name, set()).add(path)
+        parts = path.split(os.sep)
+        if path.endswith(".rt") or not ("specs" in parts or parts[-2] == "proofs"):
+            continue
+        taken = {w.split(" as ")[0].strip() for m in IMPORT.finditer(text) if m[1] for w in m[1].split(",")}
+        for name in re.findall(WORD, IMPORT.sub("", text)):
+            if re.fullmatch(r"[A-Za-z][\w']*(?:-[\w']+)+", name) and name not in taken:
+                found.setdefault(name, set()).add(path)
+    return found
+
+
 def changes(top):
     found, goals = own_names(top)
+    for name, paths in other_names(top).items():
+        found.setdefault(name, set()).update(paths)
     return {n: respelled(n) for n in found if n not in goals and respelled(n) != n}, found
 
 

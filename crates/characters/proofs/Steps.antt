@@ -279,10 +279,10 @@ pub took : (s : List ℕ) (p : Part) (n : ℕ) → Some p ≡ first_part s → n
     (parts s ≡ p ∷ parts (take (length s - n) (drop n s))) × (take (length s - n) (drop n s) ≡ drop (size p) s)
 took [] p n e f = let z : ◌≡◌ {A = ℕ} 0 1 = cc in let y : ⊥ = omega arith in absurd y
 took (b ∷ bs) p n e f =
-    let same-part : p ≡ next_part b bs = cc in
+    let same_part : p ≡ next_part b bs = cc in
     let rest = take_rest (b ∷ bs) n in
     let left : take (length (b ∷ bs) - n) (drop n (b ∷ bs)) ≡ drop (size p) (b ∷ bs) = rest ∙ ap (λ k. drop k (b ∷ bs)) f in (
-      subst (λ q. parts (b ∷ bs) ≡ q ∷ parts (drop (size q) (b ∷ bs))) (sym same-part) (parts_cons b bs)
+      subst (λ q. parts (b ∷ bs) ≡ q ∷ parts (drop (size q) (b ∷ bs))) (sym same_part) (parts_cons b bs)
           ∙ ap (λ t. p ∷ parts t) (sym left),
       left,
     )

@@ -26,10 +26,10 @@ abbrev pub Listed : List ℕ → ℕ → Row → Type 0
 Listed s c r = Follows s r × (r.points_from ≤ c) × (c ≤ r.points_to)
 
 -- the first n bytes of s are a well-formed sequence with that code point
-pub record IsCharacter (s : List ℕ) (code-point n : ℕ) : Type 0 where
+pub record IsCharacter (s : List ℕ) (code_point n : ℕ) : Type 0 where
   pub well_formed : WellFormed (take n s)
-  pub value : code-point ≡ code_point_of (take n s)
-  pub listed : SomeRow (Listed (take n s) code-point) table
+  pub value : code_point ≡ code_point_of (take n s)
+  pub listed : SomeRow (Listed (take n s) code_point) table
 
 -- no front of s is well formed, and the first n bytes are the longest start of a well-formed sequence;
 -- where not even the first byte is a start, that one byte is taken

@@ -69,7 +69,7 @@ module _ (m : Meaning) (lawful : Lawful m) where
     sound_apart : Apart m es
     sound_apart = record {
       no_two_meet = no_two;
-      no-key-list-begins = λ key k p q r d e s.
+      no_key_list_begins = λ key k p q r d e s.
           let law : (a b : List ℕ) → key a ≡ key b → m.together a b ≡ true = λ a b. lawful.keyed key a b k in (
             λ b. no_two p q r d e s (starts_meets m.together key law d.name e.name b),
             λ b. no_two p q r d e s
@@ -86,7 +86,7 @@ from_none m lawful ds es ran =
       ruled_allowed = λ e k. (each_from_all _ es sound.fine e k).0;
       passed = λ e k. passes_from m e.name e.mode (each_from_all _ es sound.fine e k).1;
       apart = sound_apart m lawful es (tally m ds) sound;
-      enters-exact = λ later earlier x n mode o s l a q.
+      enters_exact = λ later earlier x n mode o s l a q.
           let r = ran_at m [] ran later earlier _ s in
           rw r.2
           (entering_refused m r.0 (tally m earlier) (ran_sound m lawful r.1) x mode l a (unjudged_from m x mode q));
@@ -99,8 +99,8 @@ claim m lawful first ds es ran e = from_none m lawful ds es (subst (λ z. Ran m 
 pub offers : (m : Meaning) → Mending m → (first : Kept) (ds : List Done) (es : Kept) → Ran m first ds es → OffersClaim m ds
 unfolding tally
 offers m mending first ds es ran = record {
-  offers-pass = λ later earlier text n o k i v s e.
+  offers_pass = λ later earlier text n o k i v s e.
       let r = ran_at m first ran later earlier _ s in
       subst Spared (sym r.2 ∙ e) (offering_spared m r.0 text (mending.mended_allowed text));
-  offers-unchanged = λ later earlier text n o s a k. rw (k, mending.allowed_stays text a) (inl refl);
+  offers_unchanged = λ later earlier text n o s a k. rw (k, mending.allowed_stays text a) (inl refl);
 }

@@ -50,7 +50,7 @@ pub record SameEntries (es t : Kept) : Type 0 where
 -- No two names kept at different places meet, and under every key neither's list of keys begins the other's.
 pub record Apart (m : Meaning) (es : Kept) : Type 0 where
   pub no_two_meet : (p q r : Kept) (d e : Entry (Option Mode)) → es ≡ p ++ (d ∷ (q ++ (e ∷ r))) → Meets m.together d.name e.name → ⊥
-  pub no-key-list-begins :
+  pub no_key_list_begins :
       (key : Key) → Listed m.keys key
       → (p q r : Kept) (d e : Entry (Option Mode)) → es ≡ p ++ (d ∷ (q ++ (e ∷ r)))
       → (Starts (keys_under key d.name) (keys_under key e.name) → ⊥) × (Starts (keys_under key e.name) (keys_under key d.name) → ⊥)
@@ -89,7 +89,7 @@ pub record Claim (m : Meaning) (ds : List Done) (es : Kept) : Type 0 where
   pub apart : Apart m es
   -- an enter of a name of at most 255 bytes that rulebook and file system pass was refused exactly when a kept name met it
   -- or 128 were kept
-  pub enters-exact :
+  pub enters_exact :
       (later earlier : List Done) (x : List ℕ) (n : ℕ) (mode : Option Mode) (o : Outcome)
       → ds ≡ later ++ (record { call = enter x n mode; outcome = o } ∷ earlier)
       → length x ≤ 255 → m.ruled x ≡ allowed → Passes m x mode
@@ -98,12 +98,12 @@ pub record Claim (m : Meaning) (ds : List Done) (es : Kept) : Type 0 where
 -- What holds of the offers among the calls ds, where the rulebook mends.
 pub record OffersClaim (m : Meaning) (ds : List Done) : Type 0 where
   -- none was refused by the rulebook
-  pub offers-pass :
+  pub offers_pass :
       (later earlier : List Done) (text : List ℕ) (n : ℕ) (o : Outcome) (k i v : ℕ)
       → ds ≡ later ++ (record { call = offer text n; outcome = o } ∷ earlier)
       → o ≢ declined (by_rulebook k i v)
   -- an allowed text was put in unchanged
-  pub offers-unchanged :
+  pub offers_unchanged :
       (later earlier : List Done) (text : List ℕ) (n : ℕ) (o : Outcome)
       → ds ≡ later ++ (record { call = offer text n; outcome = o } ∷ earlier)
       → m.ruled text ≡ allowed → was_accepted o ≡ true

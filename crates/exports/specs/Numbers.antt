@@ -4,9 +4,9 @@ use Rattle.tag.specs.Answers.{Answer}
 use Rattle.tag.specs.Answers.Answer.{allowed, refused}
 use Rattle.tag.specs.Answers.Value.{nothing, byte, name}
 use Rattle.mending.specs.Mender.{Outcome}
-use Rattle.mending.specs.Mender.Outcome.{wrote, refused as mend-refused}
+use Rattle.mending.specs.Mender.Outcome.{wrote, refused as mend_refused}
 use Rattle.path.specs.Answer as path
-use Rattle.path.specs.Answer.Answer.{allowed as path-allowed, refused as path-refused}
+use Rattle.path.specs.Answer.Answer.{allowed as path_allowed, refused as path_refused}
 use Rattle.path.specs.declared.Options.{Options}
 use Rattle.protections.specs.declared.rules.Mode.{Mode}
 use Rattle.protections.specs.declared.rules.Mode.TheVariants.{Symlink}
@@ -21,16 +21,16 @@ value_of (refused n (name s)) = 0
 -- The number and the length of the mender's answer: 0 where it is not refused, or not written.
 abbrev pub mend_number : Outcome → ℕ
 mend_number (wrote n) = 0
-mend_number (mend-refused n) = n
+mend_number (mend_refused n) = n
 
 abbrev pub mend_length : Outcome → ℕ
 mend_length (wrote n) = n
-mend_length (mend-refused n) = 0
+mend_length (mend_refused n) = 0
 
 -- The number of a component's answer, 0 where it is allowed.
 abbrev pub component_number : path.Answer → ℕ
-component_number (path-allowed s) = 0
-component_number (path-refused n) = n
+component_number (path_allowed s) = 0
+component_number (path_refused n) = n
 
 -- A number as a flag: 0 is off, and any other is on.
 abbrev pub on : ℕ → Bool

@@ -2,7 +2,7 @@
 #![tactic(auto)]
 
 ghost use Rattle.std.specs.Prelude.{◌≡◌, length, if◌then◌else◌};
-ghost use Rattle.tag.specs.Errors.{number_of, refusal as tag-refusal};
+ghost use Rattle.tag.specs.Errors.{number_of, refusal as tag_refusal};
 ghost use Rattle.tag.specs.Names.{tag_name};
 ghost use Rattle.mending.specs.Mender.{buffer_after, outcome};
 ghost use Rattle.reference.specs.Errors.{answer_of};
@@ -77,8 +77,8 @@ pub extern "C" fn gushteral_reference_branch_name(input: &[u8]) -> NameAnswer
 
 /// The numbers of a tag name's error.
 fn tag_numbers(error: tag::Error) -> NameAnswer
-    ensures number { result.number ≡ number_of (tag-refusal error) }
-    ensures value { result.value ≡ value_of (tag-refusal error) }
+    ensures number { result.number ≡ number_of (tag_refusal error) }
+    ensures value { result.value ≡ value_of (tag_refusal error) }
 {
     match error {
         tag::Error::InvalidByte(byte) => NameAnswer {

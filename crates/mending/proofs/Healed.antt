@@ -22,7 +22,7 @@ healed_ways : (a b w : ℕ) → Written a w → (b ≡ 47 → ⊥)
 healed_ways a b w h n = grind (arith, nat_tests)
 
 -- What holds in each of these cases holds of what stands for b.
-at-healed :
+at_healed :
     (P : List ℕ → Type 0) (a b w : ℕ)
     → Written a w
     → (b ≡ 47 → ⊥)
@@ -30,7 +30,7 @@ at-healed :
     → P (45 ∷ [])
     → (pair w b ≡ allowed → P (b ∷ []))
     → P (healed a b)
-at-healed P a b w h n none dash same =
+at_healed P a b w h n none dash same =
     ⊎_elim (λ e. subst P (sym e.0) (none e.1.0 e.1.1))
     (⊎_elim (λ e. subst P (sym e) dash) (λ e. subst P (sym e.0) (same e.1)))
     (healed_ways a b w h n)
@@ -40,7 +40,7 @@ pub heal_follows : (a w : ℕ) (c : List ℕ) → Written a w → Slashless c �
 unfolding heal
 heal_follows a w [] h n = tt
 heal_follows a w (b ∷ c) h n =
-    at-healed (λ l. Follows w (l ++ heal b c)) a b w h n.0
+    at_healed (λ l. Follows w (l ++ heal b c)) a b w h n.0
     (λ p q. heal_follows b w c (grind arith) n.1)
     (refl, heal_follows b 45 c (inr refl) n.1)
     (λ p. (p, heal_follows b b c (inl refl) n.1))
@@ -51,7 +51,7 @@ unfolding heal
 heal_slashless a [] n = tt
 heal_slashless a (b ∷ c) n =
     let rest = heal_slashless b c n.1 in
-    at-healed (λ l. Slashless (l ++ heal b c)) a b a (inl refl) n.0 (λ _ _. rest) (λ e. omega arith, rest) (λ _. (n.0, rest))
+    at_healed (λ l. Slashless (l ++ heal b c)) a b a (inl refl) n.0 (λ _ _. rest) (λ e. omega arith, rest) (λ _. (n.0, rest))
 
 -- Healing makes no component longer.
 pub heal_short : (a : ℕ) (c : List ℕ) → Slashless c → length (heal a c) ≤ length c
@@ -59,14 +59,14 @@ unfolding heal
 heal_short a [] n = omega arith
 heal_short a (b ∷ c) n =
     let rest = heal_short b c n.1 in
-    at-healed (λ l. length (l ++ heal b c) ≤ length (b ∷ c)) a b a (inl refl) n.0 (λ _ _. omega arith) (omega arith) (λ _. omega arith)
+    at_healed (λ l. length (l ++ heal b c) ≤ length (b ∷ c)) a b a (inl refl) n.0 (λ _ _. omega arith) (omega arith) (λ _. omega arith)
 
 -- The first byte of a component never vanishes.
 pub heal_some : (c : List ℕ) → Slashless c → 0 < length c → 0 < length (heal 47 c)
 unfolding heal
 heal_some [] n h = h
 heal_some (b ∷ c) n h =
-    at-healed (λ l. 0 < length (l ++ heal b c)) 47 b 47 (inl refl) n.0 (λ p _. absurd (omega arith)) (omega arith) (λ _. omega arith)
+    at_healed (λ l. 0 < length (l ++ heal b c)) 47 b 47 (inl refl) n.0 (λ p _. absurd (omega arith)) (omega arith) (λ _. omega arith)
 
 -- A byte that may follow a stands for itself.
 healed_same : (a b : ℕ) → pair a b ≡ allowed → healed a b ≡ b ∷ []

@@ -65,12 +65,12 @@ filled_whole (c ∷ cs) h =
     (λ e. let n = eqb-false (length c) 0 e in (clean_whole c h.0 (omega arith), filled_whole cs h.1))
 
 -- Mending makes them no longer.
-pub filled-short :
+pub filled_short :
     (cs : List (List ℕ)) → All Slashless cs → length (closed (map clean (filled cs))) ≤ length (closed cs)
 unfolding filled
-filled-short [] h = omega arith
-filled-short (c ∷ cs) h =
-    let rest = filled-short cs h.1 in
+filled_short [] h = omega arith
+filled_short (c ∷ cs) h =
+    let rest = filled_short cs h.1 in
     let here = clean_short c h.0 in
     cond_both (eqb (length c) 0) (filled cs) (c ∷ filled cs) (λ l. length (closed (map clean l)) ≤ length (closed (c ∷ cs)))
     (λ _. simp length-append (omega arith)) (λ _. simp length-append (omega arith))

@@ -13,7 +13,7 @@ use Rattle.tag.proofs.Sound.{Follows, Unlocked, Sound}
 use Rattle.mending.specs.Mender.{clean, filled, dash_end, dash_alone, mended}
 use Rattle.mending.proofs.Following.{follows_append, follows_front, follows_rest, slash_after, slash_after_only}
 use Rattle.mending.proofs.Cleaned.{Whole}
-use Rattle.mending.proofs.Joining.{joined_closed, components_closed, joined_from, components_slashless, filled_whole, filled-short, filled_same, joined_short, whole_follows, whole_unlocked, whole_from}
+use Rattle.mending.proofs.Joining.{joined_closed, components_closed, joined_from, components_slashless, filled_whole, filled_short, filled_same, joined_short, whole_follows, whole_unlocked, whole_from}
 
 -- A name and a slash after it: the slash may follow the name's last byte, and no .lock stands before it.
 abbrev Closes : List ℕ → Type 0
@@ -152,7 +152,7 @@ mended_short s =
       arith,
       dash_short (joined (map clean (filled cs))),
       joined_short (map clean (filled cs)),
-      filled-short cs (components_slashless s),
+      filled_short cs (components_slashless s),
       ap length (components_closed s),
       length_push s 47,
     )

@@ -6,7 +6,7 @@ ghost use Rattle.std.specs.List.{ContainsAt as Has};
 ghost use Rattle.protections.specs.Keys.{device_key};
 ghost use Rattle.protections.specs.Names.{devices};
 ghost use Rattle.protections.specs.Rules.{numbered, plain_rule, is_device};
-ghost use Rattle.protections.specs.Rules.{number_of as verdict-number};
+ghost use Rattle.protections.specs.Rules.{number_of as verdict_number};
 ghost use Rattle.path.specs.Answer.{answer_of, number_of, text_of};
 ghost use Rattle.path.specs.Rule.{if_on, verdict_before, is_relative, component_rule, component_rule_sparing};
 
@@ -79,10 +79,10 @@ impl fmt::Display for Error {
 impl std::error::Error for Error {}
 
 impl From<Verdict> for Error {
-    ghost from_gives = { λ v e. number_of e ≡ verdict-number v };
+    ghost from_gives = { λ v e. number_of e ≡ verdict_number v };
 
     fn from(verdict: Verdict) -> Error
-        ensures { number_of result ≡ verdict-number verdict }
+        ensures { number_of result ≡ verdict_number verdict }
     {
         match verdict {
             Verdict::PathSeparator => Error::PathSeparator,

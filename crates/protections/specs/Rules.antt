@@ -27,7 +27,7 @@ linked (Some Symlink) = true
 
 -- 26 for .git, and 27 for a link .gitmodules
 abbrev pub guarded : Bool → Bool → Option Mode → Option ℕ
-guarded is-git is-modules mode = cond is-git (Some 26) (cond (linked mode && is-modules) (Some 27) None)
+guarded is_git is_modules mode = cond is_git (Some 26) (cond (linked mode && is_modules) (Some 27) None)
 
 -- 22 for a backslash, else 23 when the second character is a colon
 unfoldable pub windows_rule : List ℕ → Option Mode → Option ℕ

@@ -1,7 +1,7 @@
 -- Which of several checks decides, by errors of reference names and of tag names.
 use Rattle.std.proofs.Common.{◌≡◌, ℕ, List, Err, sym, refl, subst, Bor}
 use Rattle.tag.specs.Answers.{Answer, first_of}
-use Rattle.tag.specs.Errors as tag-errors
+use Rattle.tag.specs.Errors as tag_errors
 use Rattle.tag.specs.declared.Error as tag
 use Rattle.tag.specs.declared.Error.TheVariants as tags
 use Rattle.reference.specs.Errors.{refusal, from_tag, Lends}
@@ -29,7 +29,7 @@ pub first_refuses : (x y : Answer) (e : Error) → refusal e ≡ x → refusal e
 first_refuses x y e p = subst (λ (w : Answer). refusal e ≡ first_of w y) p (sym (refusal_decides e y))
 
 -- A tag name's error is the same refusal of a reference name.
-pub from_tag_refuses : (e : tag.Error) → refusal (from_tag e) ≡ tag-errors.refusal e
+pub from_tag_refuses : (e : tag.Error) → refusal (from_tag e) ≡ tag_errors.refusal e
 from_tag_refuses (tags.InvalidByte b) = refl
 from_tag_refuses tags.StartsWithSlash = refl
 from_tag_refuses tags.RepeatedSlash = refl

@@ -9,7 +9,7 @@ ghost use Rattle.mending.specs.Errors.{outcome_of};
 ghost use Rattle.mending.specs.Mender.{buffer_after, mended, outcome, room};
 ghost use Rattle.reference.specs.Errors.{Lends, Shared, answer_of, from_tag, refusal};
 ghost use Rattle.reference.specs.Manual.{BranchRules, CompleteRules, PartialRules};
-ghost use Rattle.reference.specs.Names.{all_capital, begins, branch_name, capital as is-capital, complete as is-complete, complete_name, has_slash, kept_from_branches, partial_name};
+ghost use Rattle.reference.specs.Names.{all_capital, begins, branch_name, capital as is_capital, complete as is_complete, complete_name, has_slash, kept_from_branches, partial_name};
 
 pub mod display;
 
@@ -111,7 +111,7 @@ fn has_slash(input: &[u8]) -> bool
 
 /// Whether this byte is one of A to Z or an underscore.
 fn capital(byte: u8) -> bool
-    ensures { result ≡ is-capital byte }
+    ensures { result ≡ is_capital byte }
 {
     matches!(byte, b'A'..=b'Z' | b'_')
 }
@@ -130,7 +130,7 @@ fn all_capital(input: &[u8]) -> bool
 
 /// Whether a partial name is complete: it has a slash, or it is all of A to Z and underscores.
 fn complete(input: &[u8]) -> bool
-    ensures { result ≡ is-complete input.now }
+    ensures { result ≡ is_complete input.now }
 {
     has_slash(input) || all_capital(input)
 }

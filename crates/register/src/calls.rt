@@ -1,7 +1,7 @@
 //! The calls that every register has: enter, rename and remove.
 ghost use Rattle.std.specs.Prelude.{◌≡◌, [], OnErr};
 ghost use Rattle.claims.specs.Calls.{entering, entries_after, removing, renaming};
-ghost use Rattle.claims.specs.Calls.Call.{enter as an_enter, remove as a-remove, rename as a_rename};
+ghost use Rattle.claims.specs.Calls.Call.{enter as an_enter, remove as a_remove, rename as a_rename};
 ghost use Rattle.register.specs.Faults.{outcome_of};
 ghost use Rattle.register.specs.Meanings.{meaning_in};
 ghost use Rattle.register.specs.Registers.{SameRules, entries_in};
@@ -67,7 +67,7 @@ impl<R: Rulebook, F: FileSystem> Register<R, F> {
     /// Takes a name out, and answers the place that it had.
     pub fn remove(&mut self, name: &[u8]) -> Result<usize, Fault>
         ensures answer { outcome_of result ≡ removing (entries_in self.old) name.now }
-        ensures entries { entries_in self.new ≡ entries_after (meaning_in R.Rulebook F.FileSystem self.old) (entries_in self.old) (a-remove name.now) }
+        ensures entries { entries_in self.new ≡ entries_after (meaning_in R.Rulebook F.FileSystem self.old) (entries_in self.old) (a_remove name.now) }
         ensures same_rules { SameRules self.old self.new }
         ensures unaltered { OnErr result (self.new ≡ self.old) }
     {

@@ -2,7 +2,7 @@
 ghost use Rattle.std.specs.Prelude.{◌≡◌};
 ghost use Rattle.claims.specs.Calls.{number_of};
 ghost use Rattle.register.specs.Faults.{fault_in, state_in};
-ghost use Rattle.register.specs.declared.faults.Fault.TheVariants.{Rulebook as by-rules, State as by_register};
+ghost use Rattle.register.specs.declared.faults.Fault.TheVariants.{Rulebook as by_rules, State as by_register};
 
 use protections::Verdict;
 use rulebooks::RulebookFault;
@@ -59,7 +59,7 @@ impl Fault {
 }
 
 impl From<RulebookFault> for Fault {
-    ghost from_gives = { λ f r. r ≡ by-rules f };
+    ghost from_gives = { λ f r. r ≡ by_rules f };
 
     fn from(fault: RulebookFault) -> Fault {
         Fault::Rulebook(fault)

@@ -1,5 +1,5 @@
 //! The questions to a register, which alter nothing.
-ghost use Rattle.std.specs.Prelude.{◌≡◌, ◌<◌, ◌≤◌, length, IfOk, None as left-out-none, MatchResult};
+ghost use Rattle.std.specs.Prelude.{◌≡◌, ◌<◌, ◌≤◌, length, IfOk, None as left_out_none, MatchResult};
 ghost use Rattle.std.specs.Option.{option_map};
 ghost use Rattle.std.specs.List.{slice_get};
 ghost use Rattle.claims.specs.Calls.{first_meeting};
@@ -43,7 +43,7 @@ impl<R: Rulebook, F: FileSystem> Register<R, F> {
 
     /// The place of the first kept name that meets this one, if there is one.
     pub fn meeting(&self, name: &[u8]) -> Result<Option<usize>, Fault>
-        ensures answer { MatchResult result (λ p. (length name.now ≤ 255) × (p ≡ first_meeting (F.FileSystem.together self.now.files) left-out-none name.now (entries_in self.now))) (λ f. (255 < length name.now) × (fault_in f ≡ by_state 32 0)) }
+        ensures answer { MatchResult result (λ p. (length name.now ≤ 255) × (p ≡ first_meeting (F.FileSystem.together self.now.files) left_out_none name.now (entries_in self.now))) (λ f. (255 < length name.now) × (fault_in f ≡ by_state 32 0)) }
         ensures words { IfOk result (FirstMet (F.FileSystem.together self.now.files) name.now (entries_in self.now)) }
     {
         if name.len() > LONGEST {

@@ -3,13 +3,13 @@ ghost use Rattle.std.specs.Prelude.{◌≡◌, ◌≤◌, length};
 
 use protections::Mode;
 
-mod meetings;
+mod met;
 mod names;
 mod order;
 mod places;
 mod search;
 
-pub(crate) use meetings::no_name;
+pub(crate) use met::no_name;
 
 /// How many rows there may be.
 pub(crate) const CAPACITY: usize = 128;

@@ -2,7 +2,7 @@
 use Rattle.std.proofs.Common.{◌≡◌, ℕ, is_ok, Ok, Err, Decides, Result, sym, refl, ap, ◌∙◌, arith}
 use Rattle.std.proofs.lemmas.Bool.{false≢true}
 use Rattle.tag.specs.Answers.{Answer}
-use Rattle.tag.specs.Answers.Answer.{allowed as answer-allowed}
+use Rattle.tag.specs.Answers.Answer.{allowed as answer_allowed}
 use Rattle.rulebooks.specs.Refusals.{fault_ruling, ruling_in}
 use Rattle.rulebooks.specs.Rulings.{ruling}
 use Rattle.rulebooks.specs.Rulings.Ruling.{allowed}
@@ -15,6 +15,6 @@ never : (e : Refusal) → ruling_in e ≡ allowed → ⊥
 never e h = let z : ◌≡◌ {A = ℕ} 0 1 = cc in omega arith
 
 pub decides_rules : {T P : Type 0} (r : Result T RulebookFault) (a : Answer) → fault_ruling r ≡ ruling a
-    → (a ≡ answer-allowed → P) → (P → a ≡ answer-allowed) → Decides (is_ok r) P
+    → (a ≡ answer_allowed → P) → (P → a ≡ answer_allowed) → Decides (is_ok r) P
 decides_rules (Ok v) a e f g = (λ _. f (ruling_allows a (sym e)), λ _. refl)
 decides_rules (Err d) a e f g = (λ z. absurd (false≢true z), λ p. absurd (never d.refusal (e ∙ ap ruling (g p))))

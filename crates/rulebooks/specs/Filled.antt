@@ -3,7 +3,7 @@ use Rattle.std.specs.Prelude.{◌≡◌, ℕ, ◌+◌, List, [], ◌∷◌, ◌+
 use Rattle.std.proofs.Common.{⊎_elim, sym, ap, subst, arith}
 use Rattle.std.specs.List.{AllByRecursion as All}
 use Rattle.tag.specs.Answers.{Answer}
-use Rattle.tag.specs.Answers.Answer.{allowed as answer-allowed, refused as answer-refused}
+use Rattle.tag.specs.Answers.Answer.{allowed as answer_allowed, refused as answer_refused}
 use Rattle.tag.specs.Components.{components, Among}
 use Rattle.tag.specs.Manual.{Ends, Lacks, Rules}
 use Rattle.tag.proofs.Members.{each_from_all}
@@ -14,9 +14,9 @@ use Rattle.rulebooks.specs.Rulings.Ruling.{allowed, refused}
 use Rattle.rulebooks.specs.Kinds.{component_ruling, leftmost}
 
 -- A ruling allows only where the answer does.
-pub ruling_allows : (a : Answer) → ruling a ≡ allowed → a ≡ answer-allowed
-ruling_allows answer-allowed h = refl
-ruling_allows (answer-refused n v) h = let z : ◌≡◌ {A = ℕ} 0 1 = cc in absurd (omega arith)
+pub ruling_allows : (a : Answer) → ruling a ≡ allowed → a ≡ answer_allowed
+ruling_allows answer_allowed h = refl
+ruling_allows (answer_refused n v) h = let z : ◌≡◌ {A = ℕ} 0 1 = cc in absurd (omega arith)
 
 -- c has a byte.
 abbrev Filled : List ℕ → Type 0

@@ -1,7 +1,7 @@
 -- What a rulebook says of a byte string.
 use Rattle.std.specs.Prelude.{ℕ}
 use Rattle.tag.specs.Answers.{Answer, Value}
-use Rattle.tag.specs.Answers.Answer.{allowed as answer-allowed, refused as answer-refused}
+use Rattle.tag.specs.Answers.Answer.{allowed as answer_allowed, refused as answer_refused}
 use Rattle.tag.specs.Answers.Value.{nothing, byte, name}
 
 -- A name is allowed, or it is refused by a number and a value.
@@ -17,8 +17,8 @@ as_number (name s) = 0
 
 -- The answer of a check of names as a ruling.
 abbrev pub ruling : Answer → Ruling
-ruling answer-allowed = Ruling.allowed
-ruling (answer-refused n v) = Ruling.refused n (as_number v)
+ruling answer_allowed = Ruling.allowed
+ruling (answer_refused n v) = Ruling.refused n (as_number v)
 
 -- Of two rulings in this order, the first that refuses decides.
 abbrev pub first_of : Ruling → Ruling → Ruling

@@ -3,10 +3,10 @@
 
 ghost use Rattle.std.specs.Prelude.{◌≡◌, ℕ, ◌≤◌, max, List, [], length, take, IfOk, IfErr, OnOk, ◌≢◌};
 ghost use Rattle.tag.specs.Components.{Among, components};
-ghost use Rattle.tag.specs.Errors as tag-errors;
+ghost use Rattle.tag.specs.Errors as tag_errors;
 ghost use Rattle.mending.specs.Errors.{outcome_of};
 ghost use Rattle.mending.specs.Mender.{buffer_after_with, outcome_with};
-ghost use Rattle.reference.specs.Errors as reference-errors;
+ghost use Rattle.reference.specs.Errors as reference_errors;
 ghost use Rattle.rulebooks.specs.Refusals.{fault_ruling, ruling_in, ruling_of};
 ghost use Rattle.rulebooks.specs.Rulings.{Ruling, ruling};
 ghost use Rattle.rulebooks.specs.Rulings.Ruling.{allowed};
@@ -58,7 +58,7 @@ pub trait MendingRulebook: Rulebook {
 }
 
 impl<'a> From<reference::Error<'a>> for Refusal {
-    ghost from_gives = { λ e r. ruling_in r ≡ ruling (reference-errors.refusal e) };
+    ghost from_gives = { λ e r. ruling_in r ≡ ruling (reference_errors.refusal e) };
 
     fn from(error: reference::Error<'a>) -> Refusal {
         match error {
@@ -75,7 +75,7 @@ impl<'a> From<reference::Error<'a>> for Refusal {
 }
 
 impl From<tag::Error> for Refusal {
-    ghost from_gives = { λ e r. ruling_in r ≡ ruling (tag-errors.refusal e) };
+    ghost from_gives = { λ e r. ruling_in r ≡ ruling (tag_errors.refusal e) };
 
     fn from(error: tag::Error) -> Refusal {
         Refusal::from(reference::Error::from(error))

@@ -3,7 +3,7 @@ ghost use Rattle.std.specs.Prelude.{◌≡◌, length, take, is_ok, IfOk, IfErr,
 ghost use Rattle.std.proofs.Common.{ap};
 ghost use Rattle.tag.specs.Manual.{Rules};
 ghost use Rattle.mending.specs.Errors.{outcome_of};
-ghost use Rattle.mending.specs.Mender.{buffer_after, mended as mended-handle, outcome};
+ghost use Rattle.mending.specs.Mender.{buffer_after, mended as mended_handle, outcome};
 ghost use Rattle.reference.specs.Manual.{BranchRules, CompleteRules, PartialRules};
 ghost use Rattle.rulebooks.specs.Kinds.{branch_names, complete_names, partial_names, tag_names};
 ghost use Rattle.rulebooks.specs.Refusals.{fault_ruling};
@@ -43,7 +43,7 @@ impl Rulebook for PartialNames {
 }
 
 impl MendingRulebook for PartialNames {
-    ghost mended = { mended-handle };
+    ghost mended = { mended_handle };
 
     ghost always_allowed = { λ s. ap ruling (mended_allowed s) };
 

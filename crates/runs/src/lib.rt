@@ -1,8 +1,8 @@
 //! Lists of calls on a register, and what holds after any of them.
 ghost use Rattle.std.specs.Prelude.{◌≡◌, min, List, [], map, length, take, drop};
-ghost use Rattle.claims.specs.Calls.{answer as answer-laid-down, entries_after};
+ghost use Rattle.claims.specs.Calls.{answer as answer_laid_down, entries_after};
 ghost use Rattle.claims.specs.Claim.{Claim, Done, OffersClaim, Ran};
-ghost use Rattle.claims.specs.Histories.{answers as answers-laid-down, entries_left, history};
+ghost use Rattle.claims.specs.Histories.{answers as answers_laid_down, entries_left, history};
 ghost use Rattle.register.specs.Faults.{outcome_of};
 ghost use Rattle.register.specs.Meanings.{meaning_in, mending_meaning_in};
 ghost use Rattle.register.specs.Registers.{SameRules, entries_in};
@@ -47,7 +47,7 @@ fn make_change<R: Rulebook, F: FileSystem>(
     register: &mut Register<R, F>,
     change: Change<'_>,
 ) -> Answer
-    ensures answer { outcome_of result ≡ answer-laid-down (meaning_in R.Rulebook F.FileSystem register.old) (entries_in register.old) (change_of change.entry) }
+    ensures answer { outcome_of result ≡ answer_laid_down (meaning_in R.Rulebook F.FileSystem register.old) (entries_in register.old) (change_of change.entry) }
     ensures entries { entries_in register.new ≡ entries_after (meaning_in R.Rulebook F.FileSystem register.old) (entries_in register.old) (change_of change.entry) }
     ensures same_rules { SameRules register.old register.new }
 {
@@ -63,7 +63,7 @@ fn make_call<R: MendingRulebook, F: FileSystem>(
     register: &mut Register<R, F>,
     call: Call<'_>,
 ) -> Answer
-    ensures answer { outcome_of result ≡ answer-laid-down (mending_meaning_in R.Rulebook R.MendingRulebook F.FileSystem register.old) (entries_in register.old) (call_of call.entry) }
+    ensures answer { outcome_of result ≡ answer_laid_down (mending_meaning_in R.Rulebook R.MendingRulebook F.FileSystem register.old) (entries_in register.old) (call_of call.entry) }
     ensures entries { entries_in register.new ≡ entries_after (mending_meaning_in R.Rulebook R.MendingRulebook F.FileSystem register.old) (entries_in register.old) (call_of call.entry) }
     ensures same_rules { SameRules register.old register.new }
 {
@@ -80,7 +80,7 @@ pub fn perform_changes<R: Rulebook, F: FileSystem>(
     answers: &mut [Answer],
 ) -> usize
     ensures count { result ≡ min (length changes.now) (length answers.old) }
-    ensures answered { map outcome_of (take result answers.new) ≡ answers-laid-down (meaning_in R.Rulebook F.FileSystem register.old) (entries_in register.old) (map change_of (take result changes.now)) }
+    ensures answered { map outcome_of (take result answers.new) ≡ answers_laid_down (meaning_in R.Rulebook F.FileSystem register.old) (entries_in register.old) (map change_of (take result changes.now)) }
     ensures entries { entries_in register.new ≡ entries_left (meaning_in R.Rulebook F.FileSystem register.old) (entries_in register.old) (map change_of (take result changes.now)) }
     ensures ran { Ran (meaning_in R.Rulebook F.FileSystem register.old) (entries_in register.old) (history (map change_of (take result changes.now)) (map outcome_of (take result answers.new))) (entries_in register.new) }
     ensures claim { entries_in register.old ≡ [] → Claim (meaning_in R.Rulebook F.FileSystem register.old) (history (map change_of (take result changes.now)) (map outcome_of (take result answers.new))) (entries_in register.new) }
@@ -103,7 +103,7 @@ pub fn perform<R: MendingRulebook, F: FileSystem>(
     answers: &mut [Answer],
 ) -> usize
     ensures count { result ≡ min (length calls.now) (length answers.old) }
-    ensures answered { map outcome_of (take result answers.new) ≡ answers-laid-down (mending_meaning_in R.Rulebook R.MendingRulebook F.FileSystem register.old) (entries_in register.old) (map call_of (take result calls.now)) }
+    ensures answered { map outcome_of (take result answers.new) ≡ answers_laid_down (mending_meaning_in R.Rulebook R.MendingRulebook F.FileSystem register.old) (entries_in register.old) (map call_of (take result calls.now)) }
     ensures entries { entries_in register.new ≡ entries_left (mending_meaning_in R.Rulebook R.MendingRulebook F.FileSystem register.old) (entries_in register.old) (map call_of (take result calls.now)) }
     ensures ran { Ran (mending_meaning_in R.Rulebook R.MendingRulebook F.FileSystem register.old) (entries_in register.old) (history (map call_of (take result calls.now)) (map outcome_of (take result answers.new))) (entries_in register.new) }
     ensures claim { entries_in register.old ≡ [] → Claim (mending_meaning_in R.Rulebook R.MendingRulebook F.FileSystem register.old) (history (map call_of (take result calls.now)) (map outcome_of (take result answers.new))) (entries_in register.new) }

@@ -33,22 +33,22 @@ pub ordinary_after : (b : ℕ) → ordinary b ≡ true → after b ≡ AfterOthe
 ordinary_after b h = grind (arith, nat_tests)
 
 -- One byte on.
-pub reads-step :
+pub reads_step :
     (s : List ℕ) (i : ℕ)
     → i < length s
     → reads (take i s) (drop i s) ≡ first_of (fault (take i s) (get_or s i 0)) (reads (take (i + 1) s) (drop (i + 1) s))
 unfolding reads
-reads-step s i h = rw (take_more s i 0 h, drop_more s i 0 h)
+reads_step s i h = rw (take_more s i 0 h, drop_more s i 0 h)
 
 -- The byte at i and the byte before it have a fault.
-pub reads-pair :
+pub reads_pair :
     (s : List ℕ) (i : ℕ) (e : Error)
     → i < length s
     → refusal e ≡ pair (last_byte (take i s)) (get_or s i 0)
     → refusal e ≡ reads (take i s) (drop i s)
-reads-pair s i e h p =
+reads_pair s i e h p =
     first_refuses (fault (take i s) (get_or s i 0)) _ e (first_refuses (pair (last_byte (take i s)) (get_or s i 0)) _ e p)
-    ∙ sym (reads-step s i h)
+    ∙ sym (reads_step s i h)
 
 -- A slash closes a component that ends in .lock, or it does not.
 lock_decides : (b : ℕ) (e : Bool) (x : Answer) → allowed ≡ x → b ≡ 47 → e ≡ true
@@ -67,24 +67,24 @@ module _ (s : List ℕ) (i : ℕ) (h : i < length s) (p : allowed ≡ pair (last
   -- The byte at i is a slash after .lock
   pub reads_lock : get_or s i 0 ≡ 47 → ends_in_lock (take i s) ≡ true → refused 5 nothing ≡ reads (take i s) (drop i s)
   reads_lock q t =
-      sym (reads-step s i h ∙ ap (λ w. first_of w (reads (take (i + 1) s) (drop (i + 1) s)))
+      sym (reads_step s i h ∙ ap (λ w. first_of w (reads (take (i + 1) s) (drop (i + 1) s)))
       (lock_decides (get_or s i 0) (ends_in_lock (take i s)) (pair (last_byte (take i s)) (get_or s i 0)) p q t))
 
   -- The byte at i has no fault.
   pub reads_on : (get_or s i 0 ≡ 47 → ends_in_lock (take i s) ≡ false)
       → reads (take (i + 1) s) (drop (i + 1) s) ≡ reads (take i s) (drop i s)
   reads_on q =
-      sym (reads-step s i h ∙ ap (λ w. first_of w (reads (take (i + 1) s) (drop (i + 1) s)))
+      sym (reads_step s i h ∙ ap (λ w. first_of w (reads (take (i + 1) s) (drop (i + 1) s)))
       (lock_passes (get_or s i 0) (ends_in_lock (take i s)) (pair (last_byte (take i s)) (get_or s i 0)) p q))
 
 -- The byte at i is ordinary.
-pub reads-ordinary :
+pub reads_ordinary :
     (s : List ℕ) (i : ℕ)
     → i < length s
     → ordinary (get_or s i 0) ≡ true
     → (AfterOther ≡ after (last_byte (take (i + 1) s)))
     × (reads (take (i + 1) s) (drop (i + 1) s) ≡ reads (take i s) (drop i s))
-reads-ordinary s i h o = (
+reads_ordinary s i h o = (
   sym (ap after (last_byte_more s i h) ∙ ordinary_after (get_or s i 0) o),
   reads_on s i h (ordinary_passes (get_or s i 0) o (last_byte (take i s))) (λ e. absurd (ordinary_no_slash (get_or s i 0) o e)),
 )

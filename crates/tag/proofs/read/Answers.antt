@@ -5,13 +5,13 @@ use Rattle.tag.specs.Answers.Answer.{allowed}
 use Rattle.tag.specs.Bytes.{last_byte, ends_in_lock}
 use Rattle.tag.specs.Names.{pair, reads}
 use Rattle.tag.specs.Scanning.{after}
-use Rattle.tag.proofs.Reading.{reads-ordinary, reads-pair, reads_on, reads_lock, last_byte_more}
+use Rattle.tag.proofs.Reading.{reads_ordinary, reads_pair, reads_on, reads_lock, last_byte_more}
 use Rattle.tag.proofs.read.Goals as goal
 use Rattle.tag.proofs.read.Goals.{else-byte-eq47-via-then-byte-eq47+else-ends_in_lock, else-byte-eq47-via-else-byte-eq47}
 
 pub returns-in-Some : goal.returns-in-Some
 returns-in-Some c =
-    reads-pair c.args.input.now c.loop-i.i c.in-Some.fault (omega arith)
+    reads_pair c.args.input.now c.loop-i.i c.in-Some.fault (omega arith)
     (c.in-Some.ensures.finds (last_byte (take c.loop-i.i c.args.input.now)) c.loop-i.invariant.0)
     ∙ c.loop-i.invariant.1
 
@@ -25,7 +25,7 @@ returns-then-ends_in_lock c =
 
 pub loop-i-preserved-then-ordinary : goal.loop-i-preserved-then-ordinary
 loop-i-preserved-then-ordinary c =
-    let on = reads-ordinary c.args.input.now c.loop-i.i (omega arith) (sym c.if-ordinary.ensures) in
+    let on = reads_ordinary c.args.input.now c.loop-i.i (omega arith) (sym c.if-ordinary.ensures) in
     (on.0, on.1 ∙ c.loop-i.invariant.1)
 
 pub loop-i-preserved : goal.loop-i-preserved

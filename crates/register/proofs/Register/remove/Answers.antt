@@ -7,12 +7,12 @@ use Rattle.register.proofs.Striking.{stands}
 use Rattle.register.proofs.Tables.{count_length}
 use Rattle.register.proofs.Register.remove.Goals as goal
 
-pub returns-in-default : goal.returns-in-default
-returns-in-default g c =
+pub returns-in_default : goal.returns-in_default
+returns-in_default g c =
     let m = meaning_of g.R.Rulebook g.F.FileSystem c.args.self.now.files in
     let es = entries_of c.args.self.now.table in
-    let a = remove_unkept m es c.args.name.now c.in-default.ensures in
-    record { answer = a; entries = refused_leaves m es (remove c.args.name.now) _ a; same-rules = (refl, refl); unaltered = refl }
+    let a = remove_unkept m es c.args.name.now c.in_default.ensures in
+    record { answer = a; entries = refused_leaves m es (remove c.args.name.now) _ a; same_rules = (refl, refl); unaltered = refl }
 
 pub remove-requires : goal.remove-requires
 remove-requires g c =
@@ -28,6 +28,6 @@ returns g c =
     record {
       answer = a;
       entries = c.remove.ensures ∙ (sym s.struck ∙ accepted_leaves m es (remove c.args.name.now) _ a);
-      same-rules = (refl, refl);
+      same_rules = (refl, refl);
       unaltered = tt;
     }

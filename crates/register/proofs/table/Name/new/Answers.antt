@@ -3,8 +3,8 @@ use Rattle.std.proofs.Common.{length, sym, ap, ◌∙◌, rules}
 use Rattle.std.proofs.lemmas.List.{places, take_at}
 use Rattle.register.proofs.table.Name.new.Goals as goal
 
-pub invariant-of-result : goal.invariant-of-result
-invariant-of-result c = (search (rules, places), tt)
+pub invariant_of-result : goal.invariant_of-result
+invariant_of-result c = (search (rules, places), tt)
 
 pub returns : goal.returns
-returns c = let e = c.copy-from-slice.ensures.after in take_at _ _ _ (ap length e) ∙ e
+returns c = let e = c.copy_from_slice.ensures.after in take_at _ _ _ (ap length e) ∙ e

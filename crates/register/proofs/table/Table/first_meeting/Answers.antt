@@ -16,13 +16,13 @@ passes together except old x new out met e o m =
     ap (λ z. not (left_out except z) && meet together z new) (sym e)
     ∙ (ap (λ z. not z && meet together old new) (sym o) ∙ ap (λ z. not out && z) m)
 
-pub rows-preserved-then-is-left-out : goal.rows-preserved-then-is-left-out
-rows-preserved-then-is-left-out g c =
+pub rows-preserved-then-is_left_out : goal.rows-preserved-then-is_left_out
+rows-preserved-then-is_left_out g c =
     let t = g.F.FileSystem.together c.args.files.now in
     let except = option_map (λ x. x.now) c.args.except in
     not_here (λ e. not (left_out except e.name) && meet t e.name c.args.name.now) (entries_of c.args.self.now) _ c.rows.invariant _
     (row_here c.args.self.now c.rows.place _ c.rows-test.true)
-    (passes t except _ _ c.args.name.now true _ c.as-bytes-old.ensures c.if-is-left-out.ensures refl)
+    (passes t except _ _ c.args.name.now true _ c.as_bytes-old.ensures c.if-is_left_out.ensures refl)
 
 pub rows-preserved : goal.rows-preserved
 rows-preserved g c =
@@ -30,7 +30,7 @@ rows-preserved g c =
     let except = option_map (λ x. x.now) c.args.except in
     not_here (λ e. not (left_out except e.name) && meet t e.name c.args.name.now) (entries_of c.args.self.now) _ c.rows.invariant _
     (row_here c.args.self.now c.rows.place _ c.rows-test.true)
-    (passes t except _ _ c.args.name.now false false c.as-bytes-old.ensures c.if-is-left-out.ensures (sym c.components.invariant ∙ c.in-Apart.ensures))
+    (passes t except _ _ c.args.name.now false false c.as_bytes-old.ensures c.if-is_left_out.ensures (sym c.components.invariant ∙ c.in-Apart.ensures))
 
 pub returns-in-Met : goal.returns-in-Met
 unfolding first_meeting
@@ -39,7 +39,7 @@ returns-in-Met g c =
     let except = option_map (λ x. x.now) c.args.except in
     found_here (λ e. not (left_out except e.name) && meet t e.name c.args.name.now) (entries_of c.args.self.now) _ c.rows.invariant _
     (row_here c.args.self.now c.rows.place _ c.rows-test.true)
-    (passes t except _ _ c.args.name.now false true c.as-bytes-old.ensures c.if-is-left-out.ensures (sym c.components.invariant ∙ c.in-Met.ensures))
+    (passes t except _ _ c.args.name.now false true c.as_bytes-old.ensures c.if-is_left_out.ensures (sym c.components.invariant ∙ c.in-Met.ensures))
 
 pub returns-after-rows : goal.returns-after-rows
 unfolding first_meeting

@@ -12,16 +12,16 @@ unfolding entries_of
 returns c =
     let t = c.args.self.now in
     let r = t.room in
-    ap (map entry_of) (put_in t.rows t.count c.args.place c.args.row (omega arith) (omega arith) _ c.rotate-right.new.self refl c.rotate-right.ensures.after)
+    ap (map entry_of) (put_in t.rows t.count c.args.place c.args.row (omega arith) (omega arith) _ c.rotate_right.new.self refl c.rotate_right.ensures.after)
     ∙ put_entries (take t.count t.rows) c.args.place c.args.row
 
-pub invariant-of-self : goal.invariant-of-self
-invariant-of-self c =
+pub invariant_of-self : goal.invariant_of-self
+invariant_of-self c =
     let t = c.args.self.now in
     let r = t.room in
     let w = length-set t.rows t.count c.args.row in
     let size = length-between (set t.rows t.count c.args.row) c.args.place (t.count + 1) (omega arith) in (
-      length_put_mid c.args.place (t.count + 1 - c.args.place) (set t.rows t.count c.args.row) c.rotate-right.new.self (omega arith) (c.rotate-right.ensures.len ∙ size)
+      length_put_mid c.args.place (t.count + 1 - c.args.place) (set t.rows t.count c.args.row) c.rotate_right.new.self (omega arith) (c.rotate_right.ensures.len ∙ size)
           ∙ (w ∙ r),
       (omega arith, tt),
     )

@@ -12,15 +12,15 @@ returns c =
     let t = c.args.self.now in
     let r = t.room in
     let n = t.counted in
-    ap (map entry_of) (take_out t.rows t.count c.args.place (omega arith) (omega arith) _ c.rotate-left.new.self refl c.rotate-left.ensures.after)
+    ap (map entry_of) (take_out t.rows t.count c.args.place (omega arith) (omega arith) _ c.rotate_left.new.self refl c.rotate_left.ensures.after)
     ∙ out_entries (take t.count t.rows) c.args.place
 
-pub invariant-of-self : goal.invariant-of-self
-invariant-of-self c =
+pub invariant_of-self : goal.invariant_of-self
+invariant_of-self c =
     let t = c.args.self.now in
     let r = t.room in
     let n = t.counted in
     let size = length-between t.rows c.args.place t.count (omega arith) in (
-      length_put_mid c.args.place (t.count - c.args.place) t.rows c.rotate-left.new.self (omega arith) (c.rotate-left.ensures.len ∙ size) ∙ r,
+      length_put_mid c.args.place (t.count - c.args.place) t.rows c.rotate_left.new.self (omega arith) (c.rotate_left.ensures.len ∙ size) ∙ r,
       (omega arith, tt),
     )
