@@ -1,6 +1,6 @@
 -- Bytes below 0x80 are their own code points.
 use Rattle.std.proofs.Common.{◌≡◌, ℕ, ◌<◌, true, List, [], ◌∷◌, map, drop, Some, refl, ap, ◌∙◌, subst, arith}
-use Rattle.std.specs.List.{common_prefix_len, AllByRecursion as All}
+use Rattle.std.specs.List.{common_prefix_len, AllByRecursion}
 use Rattle.characters.specs.declared.Part.TheVariants.{Character}
 use Rattle.characters.specs.Table.{table, within, following_of, ◌to◌}
 use Rattle.characters.specs.Standard.{point, size}
@@ -20,7 +20,7 @@ alone b s h =
     let part : part_by b s (Some []) ≡ Character b 1 = rw (no_ranges s) in
     ap (part_by b s) ranges ∙ part
 
-pub ascii_points : (s : List ℕ) → All (λ b. b < 128) s → code_points s ≡ s
+pub ascii_points : (s : List ℕ) → AllByRecursion (λ b. b < 128) s → code_points s ≡ s
 unfolding code_points
 ascii_points [] h = ap (map point) parts_nil
 ascii_points (b ∷ s) h =

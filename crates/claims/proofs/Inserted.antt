@@ -1,6 +1,6 @@
 -- A list with one more element somewhere in it, and lists in which each element stands in a relation to all later ones.
 use Rattle.std.proofs.Common.{◌≡◌, ℕ, zero, suc, ◌⊎◌, List, [], ◌∷◌, ◌++◌, length, take, drop, sym, refl, ap, subst, inl, inr, ⊎_elim}
-use Rattle.std.specs.List.{AllByRecursion as All}
+use Rattle.std.specs.List.{AllByRecursion}
 use Rattle.std.proofs.ByRecursion.{All-weaker}
 use Rattle.tag.specs.Components.{Among}
 use Rattle.tag.proofs.Members.{among_at, each_from_all}
@@ -13,7 +13,7 @@ pub data Inserted {X : Type 0} (x : X) : List X → List X → Type 0 where
 -- Each element stands in R to all later ones.
 abbrev pub Pairwise : {X : Type 0} → (X → X → Type 0) → List X → Type 0
 Pairwise R [] = Unit {0}
-Pairwise R (x ∷ xs) = All (R x) xs × Pairwise R xs
+Pairwise R (x ∷ xs) = AllByRecursion (R x) xs × Pairwise R xs
 
 module _ {X : Type 0} where
   -- An element put in at a place.
@@ -41,11 +41,11 @@ module _ {X : Type 0} where
   inserted_only (there i) z (inr m) = ⊎_elim inl (λ k. inr (inr k)) (inserted_only i z m)
 
   -- What holds of all in the longer list holds of all in the shorter, and back if it holds of the inserted element.
-  pub all_without : (P : X → Type 0) {x : X} {xs ys : List X} → Inserted x xs ys → All P ys → All P xs
+  pub all_without : (P : X → Type 0) {x : X} {xs ys : List X} → Inserted x xs ys → AllByRecursion P ys → AllByRecursion P xs
   all_without P here h = h.1
   all_without P (there i) h = (h.0, all_without P i h.1)
 
-  pub all_inserted : (P : X → Type 0) {x : X} {xs ys : List X} → Inserted x xs ys → P x → All P xs → All P ys
+  pub all_inserted : (P : X → Type 0) {x : X} {xs ys : List X} → Inserted x xs ys → P x → AllByRecursion P xs → AllByRecursion P ys
   all_inserted P here p h = (p, h)
   all_inserted P (there i) p h = (h.0, all_inserted P i p h.1)
 

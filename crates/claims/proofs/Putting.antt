@@ -1,7 +1,7 @@
 -- The first entry that passes a test, an entry put in, and an entry struck out.
 use Rattle.std.proofs.Common.{◌≡◌, ℕ, suc, Bool, true, false, ◌⊎◌, List, [], ◌∷◌, Some, None, Option, refl, inl, inr, ⊎_elim}
 use Rattle.std.specs.Option.{option_map}
-use Rattle.std.specs.List.{AllByRecursion as All}
+use Rattle.std.specs.List.{AllByRecursion}
 use Rattle.std.specs.Str.{bytes_eq}
 use Rattle.std.proofs.lemmas.Slice.Eq.{bytes_eq-Decides}
 use Rattle.std.proofs.lemmas.Bool.{both_ways, cases_Bool}
@@ -19,7 +19,7 @@ use Rattle.claims.proofs.Inserted.Inserted.{here, there}
 module _ (test : Entry (Option Mode) → Bool) where
   -- What a search by the test says of the entries: none passes, or this one does.
   pub data Searched (es : Kept) : Option ℕ → Type 0 where
-    nowhere : All (λ e. test e ≡ false) es → Searched es None
+    nowhere : AllByRecursion (λ e. test e ≡ false) es → Searched es None
     somewhere : {p : ℕ} {e : Entry (Option Mode)} → Among e es → test e ≡ true → Searched es (Some p)
 
   -- An entry that fails, in front of what was searched.
@@ -78,7 +78,7 @@ module _ (together : List ℕ → List ℕ → Bool) where
       (cases_Bool (meet together y x))
 
   -- An entry that meets none is put in at its place.
-  pub put_orderly : (e : Entry (Option Mode)) (es : Kept) → Pairwise Orderly es → All (Clear e) es → Pairwise Orderly (put e es)
+  pub put_orderly : (e : Entry (Option Mode)) (es : Kept) → Pairwise Orderly es → AllByRecursion (Clear e) es → Pairwise Orderly (put e es)
   unfolding slot
   put_orderly e [] h a = (tt, tt)
   put_orderly e (d ∷ es) h a =

@@ -1,6 +1,6 @@
 -- What an accepted call tells of its arguments, and what any call leaves of the entries and the tally.
 use Rattle.std.proofs.Common.{◌≡◌, ℕ, Bool, true, false, cond, not, ◌&&◌, leb, ◌⊎◌, List, length, Some, None, Option, refl, ⊎_elim, arith}
-use Rattle.std.specs.List.{AllByRecursion as All}
+use Rattle.std.specs.List.{AllByRecursion}
 use Rattle.std.specs.Str.{bytes_eq}
 use Rattle.std.proofs.lemmas.Slice.Eq.{bytes_eq-Decides}
 use Rattle.std.proofs.lemmas.Bool.{and_cases, not-false}
@@ -26,7 +26,7 @@ fault_passed None next p h = (refl, h)
 
 -- Where it is accepted, the search for a name that meets found none.
 met_passed : (test : Entry (Option Mode) → Bool) (es : Kept) {o : Option ℕ} → Searched test es o
-    → (next : Outcome) (p : ℕ) → unless_met o next ≡ accepted p → All (λ e. test e ≡ false) es
+    → (next : Outcome) (p : ℕ) → unless_met o next ≡ accepted p → AllByRecursion (λ e. test e ≡ false) es
 met_passed test es (nowhere a) next p h = a
 met_passed test es (somewhere k t) next p h = let z : ◌≡◌ {A = ℕ} 0 1 = cc in absurd (omega arith)
 
@@ -72,8 +72,8 @@ module _ (m : Meaning) where
 
     -- Where none but the old name meets the new one, none of the others does.
     others_unmet : (old new : List ℕ) (d : Entry (Option Mode)) → Among d es → d.name ≡ old
-        → All (λ e. (not (bytes_eq e.name old) && meet m.together e.name new) ≡ false) es
-        → All (λ e. meet m.together e.name new ≡ false) (strike old es)
+        → AllByRecursion (λ e. (not (bytes_eq e.name old) && meet m.together e.name new) ≡ false) es
+        → AllByRecursion (λ e. meet m.together e.name new ≡ false) (strike old es)
     others_unmet old new d k n u =
         all_from_each _ (strike old es) (λ c i.
         let o = others m es t sound old d k n c i in

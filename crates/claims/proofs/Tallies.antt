@@ -1,6 +1,6 @@
 -- The entries and the tally of a run, and what an entry put in or struck out leaves of them.
 use Rattle.std.proofs.Common.{◌≡◌, ℕ, suc, true, false, ◌⊎◌, List, ◌∷◌, length, Option, sym, refl, ap, ◌∙◌, inl, inr, ⊎_elim, arith}
-use Rattle.std.specs.List.{AllByRecursion as All}
+use Rattle.std.specs.List.{AllByRecursion}
 use Rattle.std.proofs.ByRecursion.{All-weaker}
 use Rattle.tag.specs.Components.{Among}
 use Rattle.tag.proofs.Members.{all_from_each, each_from_all}
@@ -24,7 +24,7 @@ Differ d e = d.name ≡ e.name → ⊥
 -- The entries es of a register are in order, apart and fine, and they are those of t, in which no name comes twice.
 pub record Sound (m : Meaning) (es t : Kept) : Type 0 where
   pub orderly : Pairwise (Orderly m.together) es
-  pub fine : All (λ e. Fine m e.name e.mode) es
+  pub fine : AllByRecursion (λ e. Fine m e.name e.mode) es
   pub put_in : (e : Entry (Option Mode)) → Among e t → Among e es
   pub no_more : (e : Entry (Option Mode)) → Among e es → Among e t
   pub as_many : length es ≡ length t
@@ -53,7 +53,7 @@ module _ (m : Meaning) (es t : Kept) (sound : Sound m es t) where
 
   -- A fine entry that meets none, put in, leaves them sound.
   pub sound_put : ((a b : List ℕ) → m.together a b ≡ true → m.together b a ≡ true)
-      → (e : Entry (Option Mode)) → Fine m e.name e.mode → All (λ d. meet m.together d.name e.name ≡ false) es
+      → (e : Entry (Option Mode)) → Fine m e.name e.mode → AllByRecursion (λ d. meet m.together d.name e.name ≡ false) es
       → Sound m (put e es) (e ∷ t)
   sound_put symmetric e f a =
       let i : Inserted e es (put e es) = inserted_at e (slot e.name es) es in

@@ -1,7 +1,7 @@
 -- The declared pairs as a list: what is kept, added and found.
 use Rattle.std.specs.Prelude.{◌≡◌, ℕ, ◌+◌, ◌<◌, ◌≤◌, Bool, true, false, ◌&&◌, ◌||◌, List, [], ◌∷◌, ◌++◌, map, length, take, drop, Decides, slice_index_or, slice_set, refl}
 use Rattle.std.proofs.Common.{sym, ap, subst, ◌∙◌, inl, inr, arith}
-use Rattle.std.specs.List.{ContainsAt as Has, AllByRecursion as All}
+use Rattle.std.specs.List.{ContainsAt as Has, AllByRecursion}
 use Rattle.std.proofs.lemmas.List.{length-map, length-take, length-take-le, take_at, get_or-map, take_more_set, map_push}
 use Rattle.std.proofs.lemmas.Bool.{and_parts, and_from, lt-ltb, le-ltb, lt-leb, le-leb}
 use Rattle.std.proofs.lemmas.Bool.Decides.{Decides-by_or, Decides-or}
@@ -23,7 +23,7 @@ filled s t zs n e l = take_at s zs n (ap length e ∙ sym l) ∙ e
 word_short : (w : Word) → length (bytes_of w) ≤ 32
 word_short w = let f = w.fits in simp length-take (omega arith)
 
-pairs_short : (ps : List Pair) → All (λ p. (length p.0 ≤ 32) × (length p.1 ≤ 32)) (map pair_of ps)
+pairs_short : (ps : List Pair) → AllByRecursion (λ p. (length p.0 ≤ 32) × (length p.1 ≤ 32)) (map pair_of ps)
 pairs_short [] = tt
 pairs_short (p ∷ ps) = ((word_short p.left, word_short p.right), pairs_short ps)
 

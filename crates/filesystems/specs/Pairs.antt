@@ -1,6 +1,6 @@
 -- Pairs of components that a storage confuses.
 use Rattle.std.specs.Prelude.{◌≡◌, ℕ, ◌≤◌, Bool, ◌&&◌, ◌||◌, ◌⊎◌, List, length}
-use Rattle.std.specs.List.{ContainsAt as Has, AllByRecursion as All}
+use Rattle.std.specs.List.{ContainsAt as Has, AllByRecursion}
 use Rattle.protections.specs.Words.{equals, some}
 
 abbrev pub Pairs : Type 0
@@ -20,4 +20,4 @@ confused pairs a b = equals a b || (in_order pairs a b || in_order pairs b a)
 
 -- at most 16 pairs, repeats counted, of components of at most 32 bytes
 abbrev pub Within : Pairs → Type 0
-Within pairs = (length pairs ≤ 16) × All (λ p. (length p.0 ≤ 32) × (length p.1 ≤ 32)) pairs
+Within pairs = (length pairs ≤ 16) × AllByRecursion (λ p. (length p.0 ≤ 32) × (length p.1 ≤ 32)) pairs

@@ -1,7 +1,7 @@
 -- The whole text, and the buffer that holds it.
 use Rattle.std.proofs.Common.{◌≡◌, ℕ, ◌-◌, ◌<◌, ◌≤◌, List, [], ◌∷◌, ◌++◌, map, length, take, drop, replicate, refl, ap, ◌∙◌, ⊎_elim, arith}
 use borrow.Rule.Slice.PartMut.{put_mid}
-use Rattle.std.specs.List.{AllByRecursion as All}
+use Rattle.std.specs.List.{AllByRecursion}
 use Rattle.std.proofs.lemmas.List.{append-nil, append_assoc, drop_all, length-append, length-drop}
 use Rattle.std.proofs.lemmas.Bool.{cases_eq, eq-eqb, ne_eqb}
 use Rattle.tag.specs.Components.{components, joined}
@@ -18,7 +18,7 @@ joined_front p c [] = refl
 joined_front p c (d ∷ cs) = append_assoc p c (47 ∷ joined (d ∷ cs))
 
 -- Components added to a text that is not empty.
-added_more : (w : List ℕ) (cs : List (List ℕ)) → 0 < length w → All Slashless cs
+added_more : (w : List ℕ) (cs : List (List ℕ)) → 0 < length w → AllByRecursion Slashless cs
     → add_all w cs ≡ joined (w ∷ map clean (filled cs))
 unfolding add_all filled joined
 added_more w [] l h = refl
@@ -32,7 +32,7 @@ added_more w (c ∷ cs) l h =
     (cases_eq (length c) 0)
 
 -- Components added to no text.
-added : (cs : List (List ℕ)) → All Slashless cs → add_all [] cs ≡ joined (map clean (filled cs))
+added : (cs : List (List ℕ)) → AllByRecursion Slashless cs → add_all [] cs ≡ joined (map clean (filled cs))
 unfolding add_all filled joined
 added [] h = refl
 added (c ∷ cs) h =

@@ -1,6 +1,6 @@
 -- Healing: each byte of a healed component may follow the one before it.
 use Rattle.std.proofs.Common.{◌≡◌, ℕ, ◌<◌, ◌≤◌, ◌⊎◌, List, [], ◌∷◌, ◌++◌, length, sym, refl, ap, ◌∙◌, subst, inl, inr, ⊎_elim, arith}
-use Rattle.std.specs.List.{AllByRecursion as All}
+use Rattle.std.specs.List.{AllByRecursion}
 use Rattle.std.proofs.lemmas.Bool.Decides.{nat_tests}
 use Rattle.tag.specs.Answers.Answer.{allowed}
 use Rattle.tag.specs.Names.{pair}
@@ -9,7 +9,7 @@ use Rattle.mending.specs.Mender.{healed, heal}
 
 -- No byte is a slash.
 abbrev pub Slashless : List ℕ → Type 0
-Slashless c = All (λ b. b ≡ 47 → ⊥) c
+Slashless c = AllByRecursion (λ b. b ≡ 47 → ⊥) c
 
 -- The byte w is the last that was written, a the last that was read: w is a itself or a dash. After a dot that vanished, w
 -- is the dot before it, or the dash for that dot.

@@ -1,6 +1,6 @@
 -- Components and the name that they make.
 use Rattle.std.proofs.Common.{◌≡◌, ℕ, ◌-◌, ◌≤◌, false, eqb, List, [], ◌∷◌, ◌++◌, map, length, refl, ap, ◌∙◌, subst, arith}
-use Rattle.std.specs.List.{AllByRecursion as All}
+use Rattle.std.specs.List.{AllByRecursion}
 use Rattle.std.proofs.ByRecursion.{All-get_or}
 use Rattle.std.proofs.lemmas.List.{append_assoc, append_cancel_right, length-append, length_push}
 use Rattle.std.proofs.lemmas.Bool.{eqb-true, eqb-false, cond_both, cond-false}
@@ -50,23 +50,23 @@ joined_from [] s e = absurd (omega (arith, ap length e, length_push s 47))
 joined_from (c ∷ cs) s e = append_cancel_right (joined (c ∷ cs)) s (47 ∷ []) (joined_closed c cs ∙ e)
 
 -- No component holds a slash.
-pub components_slashless : (s : List ℕ) → All Slashless (components s)
+pub components_slashless : (s : List ℕ) → AllByRecursion Slashless (components s)
 components_slashless s =
     all_from_each Slashless (components s)
     (λ c m. all_from_each (λ b. b ≡ 47 → ⊥) c (λ b k e. slash_free s c m (subst (λ x. Among x c) e k)))
 
 -- The mended components are those of a sound name.
-pub filled_whole : (cs : List (List ℕ)) → All Slashless cs → All Whole (map clean (filled cs))
+pub filled_whole : (cs : List (List ℕ)) → AllByRecursion Slashless cs → AllByRecursion Whole (map clean (filled cs))
 unfolding filled
 filled_whole [] h = tt
 filled_whole (c ∷ cs) h =
-    cond_both (eqb (length c) 0) (filled cs) (c ∷ filled cs) (λ l. All Whole (map clean l))
+    cond_both (eqb (length c) 0) (filled cs) (c ∷ filled cs) (λ l. AllByRecursion Whole (map clean l))
     (λ _. filled_whole cs h.1)
     (λ e. let n = eqb-false (length c) 0 e in (clean_whole c h.0 (omega arith), filled_whole cs h.1))
 
 -- Mending makes them no longer.
 pub filled_short :
-    (cs : List (List ℕ)) → All Slashless cs → length (closed (map clean (filled cs))) ≤ length (closed cs)
+    (cs : List (List ℕ)) → AllByRecursion Slashless cs → length (closed (map clean (filled cs))) ≤ length (closed cs)
 unfolding filled
 filled_short [] h = omega arith
 filled_short (c ∷ cs) h =
@@ -76,7 +76,7 @@ filled_short (c ∷ cs) h =
     (λ _. simp length-append (omega arith)) (λ _. simp length-append (omega arith))
 
 -- The components of a sound name are left as they are.
-pub filled_same : (cs : List (List ℕ)) → All Whole cs → map clean (filled cs) ≡ cs
+pub filled_same : (cs : List (List ℕ)) → AllByRecursion Whole cs → map clean (filled cs) ≡ cs
 unfolding filled
 filled_same [] h = refl
 filled_same (c ∷ cs) h =
@@ -98,20 +98,20 @@ slash_follows c p =
     slash_after c (λ e. omega (arith, ap length e)) (All-get_or _ c (length c - 1) 0 (omega arith) p.slashless)
 
 -- Components of a sound name, closed: each byte may follow the one before it.
-pub whole_follows : (cs : List (List ℕ)) → All Whole cs → Follows 47 (closed cs)
+pub whole_follows : (cs : List (List ℕ)) → AllByRecursion Whole cs → Follows 47 (closed cs)
 whole_follows [] h = tt
 whole_follows (c ∷ cs) h =
     follows_append 47 c (47 ∷ closed cs) h.0.part.follows (slash_follows c h.0.part, whole_follows cs h.1)
 
 -- Components of a sound name, closed: no slash stands after .lock
-pub whole_unlocked : (cs : List (List ℕ)) → All Whole cs → Unlocked [] (closed cs)
+pub whole_unlocked : (cs : List (List ℕ)) → AllByRecursion Whole cs → Unlocked [] (closed cs)
 whole_unlocked [] h = refl
 whole_unlocked (c ∷ cs) h =
     unlocked_over [] c (47 ∷ closed cs) h.0.part.slashless
     (λ _. h.0.unlocked, unlocked_after c (closed cs) (whole_unlocked cs h.1))
 
 -- And conversely, both make each component one of a sound name.
-pub whole_from : (cs : List (List ℕ)) → All Slashless cs → Follows 47 (closed cs) → Unlocked [] (closed cs) → All Whole cs
+pub whole_from : (cs : List (List ℕ)) → AllByRecursion Slashless cs → Follows 47 (closed cs) → Unlocked [] (closed cs) → AllByRecursion Whole cs
 whole_from [] n f u = tt
 whole_from (c ∷ cs) n f u =
     let rest = follows_rest 47 c (47 ∷ closed cs) f in

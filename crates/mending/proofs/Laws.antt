@@ -1,7 +1,7 @@
 -- The laws of the mender: the mended text is a sound name other than @, it is not longer than the larger of one byte and
 -- the input, and a sound name other than @ is its own mended text.
 use Rattle.std.proofs.Common.{◌≡◌, ℕ, suc, ◌-◌, ◌<◌, ◌≤◌, max, Bool, false, ◌&&◌, ◌||◌, eqb, List, [], ◌∷◌, ◌++◌, map, length, get_or, take, set, codes, sym, refl, ap, ◌∙◌, subst, arith}
-use Rattle.std.specs.List.{AllByRecursion as All}
+use Rattle.std.specs.List.{AllByRecursion}
 use Rattle.std.specs.Str.{bytes_eq}
 use Rattle.std.proofs.lemmas.List.{length_push, length-set, set-get_or, set_split, drop_all}
 use Rattle.std.proofs.lemmas.Bool.{and_right, eqb-false, ne_eqb, cond_both, cond-false}
@@ -96,7 +96,7 @@ abbrev alone : List ℕ → Bool
 alone s = eqb (length s) 0 || (eqb (length s) 1 && eqb (get_or s 0 0) 64)
 
 -- Components of a sound name make a sound name.
-finished : (cs : List (List ℕ)) → All Whole cs → Sound (dash_alone (dash_end (joined cs)))
+finished : (cs : List (List ℕ)) → AllByRecursion Whole cs → Sound (dash_alone (dash_end (joined cs)))
 unfolding joined
 finished [] h = one_dash_sound
 finished (c ∷ cs) h =

@@ -1,7 +1,7 @@
 -- What the plain protection refuses, HFS+ and NTFS refuse by the same number.
 use Rattle.std.proofs.Common.{◌≡◌, ℕ, ◌-◌, ◌<◌, Bool, true, false, cond, not, ◌&&◌, ◌⊎◌, List, [], ◌∷◌, ◌++◌, reverse, length, take, Some, None, codes, filter, Option, sym, refl, ap, ◌∙◌, subst, inl, inr, arith}
 use Rattle.std.specs.Char.{to_ascii_lowercase}
-use Rattle.std.specs.List.{prefix_len, suffix_len, AllByRecursion as All}
+use Rattle.std.specs.List.{prefix_len, suffix_len, AllByRecursion}
 use Rattle.std.proofs.lemmas.List.{take-map, length-map, reverse-append, map-append}
 use Rattle.std.proofs.lemmas.Bool.Decides.{nat_tests}
 use Rattle.characters.proofs.Ascii.{ascii_points}
@@ -15,18 +15,18 @@ use Rattle.protections.proofs.Equal.{equals_true}
 
 -- HFS+: a name of bytes below 0x80 has its small letters for its key
 
-ascii_from : (s : List ℕ) → All (λ b. b < 128) (lowered s) → All (λ b. b < 128) s
+ascii_from : (s : List ℕ) → AllByRecursion (λ b. b < 128) (lowered s) → AllByRecursion (λ b. b < 128) s
 ascii_from [] h = tt
 ascii_from (b ∷ s) h = (let l = h.0 in grind (arith, nat_tests), ascii_from s h.1)
 
 shown : (b : ℕ) → b < 128 → ignored b ≡ false
 shown b h = grind (arith, nat_tests)
 
-all_shown : (s : List ℕ) → All (λ b. b < 128) s → filter (λ c. not (ignored c)) s ≡ s
+all_shown : (s : List ℕ) → AllByRecursion (λ b. b < 128) s → filter (λ c. not (ignored c)) s ≡ s
 all_shown [] h = refl
 all_shown (b ∷ s) h = rw (shown b h.0, all_shown s h.1)
 
-hfs_plain : (s : List ℕ) → All (λ b. b < 128) (lowered s) → hfs_key s ≡ lowered s
+hfs_plain : (s : List ℕ) → AllByRecursion (λ b. b < 128) (lowered s) → hfs_key s ≡ lowered s
 unfolding hfs_key
 hfs_plain s h =
     let low = ascii_from s h in
@@ -90,17 +90,17 @@ ntfs_modules_key : (s : List ℕ) → lowered s ≡ modules → ntfs_key s ≡ m
 unfolding some
 ntfs_modules_key s e = ntfs_of s ∙ ap (λ t. trimmed (codes " .") (before (codes ":") t)) e
 
-git_low : All (λ b. b < 128) git
+git_low : AllByRecursion (λ b. b < 128) git
 git_low = omega arith
 
-modules_low : All (λ b. b < 128) modules
+modules_low : AllByRecursion (λ b. b < 128) modules
 modules_low = omega arith
 
 hfs_git_key : (s : List ℕ) → lowered s ≡ git → hfs_key s ≡ git
-hfs_git_key s e = hfs_plain s (subst (All (λ b. b < 128)) (sym e) git_low) ∙ e
+hfs_git_key s e = hfs_plain s (subst (AllByRecursion (λ b. b < 128)) (sym e) git_low) ∙ e
 
 hfs_modules_key : (s : List ℕ) → lowered s ≡ modules → hfs_key s ≡ modules
-hfs_modules_key s e = hfs_plain s (subst (All (λ b. b < 128)) (sym e) modules_low) ∙ e
+hfs_modules_key s e = hfs_plain s (subst (AllByRecursion (λ b. b < 128)) (sym e) modules_low) ∙ e
 
 -- what the plain protection refuses
 refuses : (s : List ℕ) (mode : Option Mode) (n : ℕ) → plain_rule s mode ≡ Some n → (lowered s ≡ git) ⊎ (lowered s ≡ modules)

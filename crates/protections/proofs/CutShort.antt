@@ -1,7 +1,7 @@
 -- Short names are eight bytes at the front of a component, with only fillers after them.
 use Rattle.std.proofs.Common.{◌≡◌, ℕ, ◌-◌, ◌<◌, ◌≤◌, Bool, true, false, ◌&&◌, eqb, List, [], ◌∷◌, length, take, drop, codes, sym, refl, ap, ◌∙◌, subst, arith}
 use Rattle.std.specs.Char.{to_ascii_lowercase}
-use Rattle.std.specs.List.{AllByRecursion as All}
+use Rattle.std.specs.List.{AllByRecursion}
 use Rattle.std.proofs.ByRecursion.{All-weaker, All-append, All-take}
 use Rattle.std.proofs.lemmas.List.{length-map, length-take, length-append, take_rest}
 use Rattle.std.proofs.lemmas.Bool.{and_parts, and_from, true≢false}
@@ -20,7 +20,7 @@ module _ (stops fillers : List ℕ) where
   abbrev Free : ℕ → Type 0
   Free b = (among stops b ≡ false) × (among fillers b ≡ false)
 
-  free_name : (w : List ℕ) → All Free w → cut_name stops fillers w ≡ true
+  free_name : (w : List ℕ) → AllByRecursion Free w → cut_name stops fillers w ≡ true
   unfolding cut_name
   free_name [] h = refl
   free_name (x ∷ []) h = rw (h.0.0, h.0.1)
@@ -47,7 +47,7 @@ digit_free : (d : ℕ) → (48 ≤ d) × (d ≤ 57) → Free (codes ":") (codes 
 unfolding some
 digit_free d h = let low = h.0 in let high = h.1 in (grind (arith, nat_tests), grind (arith, nat_tests))
 
-short_free : All (Free (codes ":") (codes " .")) short
+short_free : AllByRecursion (Free (codes ":") (codes " .")) short
 unfolding some
 short_free = ((refl, refl), ((refl, refl), ((refl, refl), ((refl, refl), ((refl, refl), ((refl, refl), tt))))))
 
@@ -59,7 +59,7 @@ short_name_free : (k : List ℕ) → ShortName k → cut_name (codes ":") (codes
 short_name_free k s =
     let f = s.from_one in
     free_name (codes ":") (codes " .") k
-    (subst (All (Free (codes ":") (codes " ."))) (sym s.whole)
+    (subst (AllByRecursion (Free (codes ":") (codes " ."))) (sym s.whole)
     (All-append (Free (codes ":") (codes " .")) (take s.kept short) (126 ∷ s.first ∷ s.digits)
     (All-take (Free (codes ":") (codes " .")) s.kept short short_free) (
       tilde_free,

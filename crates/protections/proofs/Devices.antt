@@ -1,7 +1,7 @@
 -- The names of devices, told by their first three letters.
 use Rattle.std.proofs.Common.{◌≡◌, ℕ, ◌-◌, ◌<◌, ◌≤◌, Bool, true, false, cond, not, ◌&&◌, ◌||◌, eqb, ltb, leb, ◌⊎◌, List, [], ◌∷◌, map, length, get_or, take, drop, codes, Decides, filter, sym, refl, ap, ◌∙◌, subst, inl, inr, arith}
 use Rattle.std.specs.Char.{to_ascii_lowercase}
-use Rattle.std.specs.List.{ContainsAt as Has, AllByRecursion as All}
+use Rattle.std.specs.List.{ContainsAt as Has, AllByRecursion}
 use Rattle.std.proofs.lemmas.List.{length-map, length-take, take_all}
 use Rattle.std.proofs.lemmas.Slice.{first_rest}
 use Rattle.std.proofs.lemmas.Bool.{ne_eqb, or_parts, not-false, leb-true}
@@ -28,7 +28,7 @@ other a b c x y z h = go (equals (a ∷ b ∷ c ∷ []) (x ∷ y ∷ z ∷ [])) 
         let third : c ≡ z = cc in
         absurd (h first second third)
 
-kept_none : (p : List ℕ → Bool) (ns : List (List ℕ)) → All (λ n. p n ≡ false) ns → filter p ns ≡ []
+kept_none : (p : List ℕ → Bool) (ns : List (List ℕ)) → AllByRecursion (λ n. p n ≡ false) ns → filter p ns ≡ []
 kept_none p [] h = refl
 kept_none p (n ∷ ns) h = rw h.0 (kept_none p ns h.1)
 
@@ -55,7 +55,7 @@ no_letters a b c h =
 abbrev Long : List ℕ → Bool
 Long n = leb 3 (length n)
 
-all_true : (p : List ℕ → Bool) (ns : List (List ℕ)) → some (λ n. not (p n)) ns ≡ false → All (λ n. p n ≡ true) ns
+all_true : (p : List ℕ → Bool) (ns : List (List ℕ)) → some (λ n. not (p n)) ns ≡ false → AllByRecursion (λ n. p n ≡ true) ns
 unfolding some
 all_true p [] h = tt
 all_true p (n ∷ ns) h =
@@ -91,7 +91,7 @@ module _ (stops fillers : List ℕ) where
         ∙ ap (λ e. eqb (to_ascii_lowercase a) x && (eqb (to_ascii_lowercase b) y && e)) (name_more stops fillers stopped filled c z t n third)
         ∙ regroup (eqb (to_ascii_lowercase a) x) (eqb (to_ascii_lowercase b) y) (eqb (to_ascii_lowercase c) z) (equals (cut_key stops fillers t) n)
 
-    after_three : (names : List (List ℕ)) → All (λ n. cut_name stops fillers n ≡ true) names → All (λ n. Long n ≡ true) names →
+    after_three : (names : List (List ℕ)) → AllByRecursion (λ n. cut_name stops fillers n ≡ true) names → AllByRecursion (λ n. Long n ≡ true) names →
         listed names (cut_key stops fillers (a ∷ b ∷ c ∷ t)) ≡ listed (continued names (to_ascii_lowercase a ∷ to_ascii_lowercase b ∷ to_ascii_lowercase c ∷ [])) (cut_key stops fillers t)
     unfolding some continued
     after_three [] h l = refl
@@ -102,7 +102,7 @@ module _ (stops fillers : List ℕ) where
         ∙ ap (λ e. (q && equals (cut_key stops fillers t) (drop 3 n)) || e) rest
         ∙ sym (kept_more q n (cut_key stops fillers t) (filter (λ n. equals (to_ascii_lowercase a ∷ to_ascii_lowercase b ∷ to_ascii_lowercase c ∷ []) (take 3 n)) ns))
 
-few : (k : List ℕ) (names : List (List ℕ)) → length k < 3 → All (λ n. Long n ≡ true) names → listed names k ≡ false
+few : (k : List ℕ) (names : List (List ℕ)) → length k < 3 → AllByRecursion (λ n. Long n ≡ true) names → listed names k ≡ false
 unfolding some
 few k [] h l = refl
 few k (n ∷ ns) h l = go (equals k n) refl (few k ns h l.1)
@@ -117,11 +117,11 @@ few k (n ∷ ns) h l = go (equals k n) refl (few k ns h l.1)
 
 -- the list of devices
 
-device_names : All (λ n. cut_name (codes ".:") (codes " ") n ≡ true) devices
+device_names : AllByRecursion (λ n. cut_name (codes ".:") (codes " ") n ≡ true) devices
 unfolding cut_name some
 device_names = all_true (cut_name (codes ".:") (codes " ")) devices refl
 
-long_names : All (λ n. Long n ≡ true) devices
+long_names : AllByRecursion (λ n. Long n ≡ true) devices
 unfolding some
 long_names = all_true Long devices refl
 
@@ -214,7 +214,7 @@ module _ (s : List ℕ) where
 
 -- one digit
 
-one_digit : (b : ℕ) (t ds : List ℕ) → All (λ d. cut_name (codes ".:") (codes " ") (d ∷ []) ≡ true) ds →
+one_digit : (b : ℕ) (t ds : List ℕ) → AllByRecursion (λ d. cut_name (codes ".:") (codes " ") (d ∷ []) ≡ true) ds →
     listed (map (λ d. d ∷ []) ds) (Key (b ∷ t)) ≡ (among ds (to_ascii_lowercase b) && equals (Key t) [])
 unfolding some
 one_digit b t [] h = refl

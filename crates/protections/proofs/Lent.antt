@@ -1,7 +1,7 @@
 -- The steps of a search through names that are lent.
 use Rattle.std.proofs.Common.{◌≡◌, ℕ, ◌+◌, ◌<◌, ◌≤◌, Bool, true, false, List, [], map, length, get_or, drop, sym, ap, ◌∙◌, subst, arith, Bor}
 use Rattle.std.proofs.lemmas.List.{length-map, get_or-map}
-use Rattle.std.specs.List.{AllByRecursion as All}
+use Rattle.std.specs.List.{AllByRecursion}
 use Rattle.std.proofs.ByRecursion.{All-get_or}
 use Rattle.protections.specs.Words.{equals, listed}
 use Rattle.protections.proofs.Equal.{some_yes, some_no, some_end}
@@ -20,6 +20,6 @@ module _ (k : List ℕ) (rs : List (Bor (List ℕ))) (i : ℕ) where
   pub names_end : length rs ≤ i → listed (drop i (map (λ x. x.now) rs)) k ≡ false
   names_end h = some_end (equals k) (map (λ x. x.now) rs) i (simp length-map (omega arith))
 
-pub names_all : (P : List ℕ → Type 0) (rs : List (Bor (List ℕ))) (i : ℕ) (d : Bor (List ℕ)) → i < length rs → All P (map (λ x. x.now) rs) →
+pub names_all : (P : List ℕ → Type 0) (rs : List (Bor (List ℕ))) (i : ℕ) (d : Bor (List ℕ)) → i < length rs → AllByRecursion P (map (λ x. x.now) rs) →
     P (get_or rs i d).now
 names_all P rs i d h a = subst P (get_or-map (λ x. x.now) rs i d [] h) (All-get_or P (map (λ x. x.now) rs) i [] (simp length-map (omega arith)) a)

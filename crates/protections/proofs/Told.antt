@@ -1,6 +1,6 @@
 -- The tests for names decide what the definitions say in words.
 use Rattle.std.proofs.Common.{◌≡◌, ℕ, ◌-◌, ◌<◌, ◌≤◌, true, false, not, ◌&&◌, eqb, leb, List, [], ◌∷◌, ◌++◌, length, take, drop, Decides, sym, refl, ap, ◌∙◌, subst, arith}
-use Rattle.std.specs.List.{HoldsAt, ContainsAt as Has, AllByRecursion as All}
+use Rattle.std.specs.List.{HoldsAt, ContainsAt as Has, AllByRecursion}
 use Rattle.std.proofs.lemmas.List.{take_at, drop_at, take-append-drop, length-take, get_or_default}
 use Rattle.std.proofs.lemmas.Bool.{eqb-true, eq-eqb, leb-true, le-leb, and_parts, or_parts, not-true, not-false, false≢true}
 use Rattle.std.proofs.lemmas.Bool.Decides.{Decides-by_or}
@@ -21,7 +21,7 @@ listed_decides names k =
 
 -- digits
 
-digits_from : (s : List ℕ) → some (λ b. not (digit b)) s ≡ false → All (λ d. (48 ≤ d) × (d ≤ 57)) s
+digits_from : (s : List ℕ) → some (λ b. not (digit b)) s ≡ false → AllByRecursion (λ d. (48 ≤ d) × (d ≤ 57)) s
 unfolding some
 digits_from [] e = tt
 digits_from (b ∷ s) e =
@@ -29,7 +29,7 @@ digits_from (b ∷ s) e =
     let here = and_parts (leb 48 b) (leb b 57) (not-false (digit b) parts.0) in
     ((leb-true 48 b here.0, leb-true b 57 here.1), digits_from s parts.1)
 
-digits_to : (s : List ℕ) → All (λ d. (48 ≤ d) × (d ≤ 57)) s → some (λ b. not (digit b)) s ≡ false
+digits_to : (s : List ℕ) → AllByRecursion (λ d. (48 ≤ d) × (d ≤ 57)) s → some (λ b. not (digit b)) s ≡ false
 unfolding some
 digits_to [] h = refl
 digits_to (b ∷ s) h = rw (le-leb 48 b h.0.0, le-leb b 57 h.0.1, digits_to s h.1)
@@ -43,7 +43,7 @@ record Numbered (n : ℕ) (s : List ℕ) : Type 0 where
   from_one : 49 ≤ first
   to_nine : first ≤ 57
   as_many : length digits ≡ n
-  each : All (λ d. (48 ≤ d) × (d ≤ 57)) digits
+  each : AllByRecursion (λ d. (48 ≤ d) × (d ≤ 57)) digits
 
 numbered_from : (n : ℕ) (s : List ℕ) → numbered_by n s ≡ true → Numbered n s
 numbered_from n [] e = absurd (false≢true e)
@@ -63,7 +63,7 @@ numbered_from n (t ∷ d ∷ ds) e =
       each = digits_from ds (not-true (some (λ b. not (digit b)) ds) three.1);
     }
 
-numbered_to : (n d : ℕ) (ds : List ℕ) → 49 ≤ d → d ≤ 57 → length ds ≡ n → All (λ d. (48 ≤ d) × (d ≤ 57)) ds →
+numbered_to : (n d : ℕ) (ds : List ℕ) → 49 ≤ d → d ≤ 57 → length ds ≡ n → AllByRecursion (λ d. (48 ≤ d) × (d ≤ 57)) ds →
     numbered_by n (126 ∷ d ∷ ds) ≡ true
 numbered_to n d ds a b l h = rw (le-leb 49 d a, le-leb d 57 b, eq-eqb (length ds) n l, digits_to ds h)
 

@@ -2,7 +2,7 @@
 use Rattle.std.specs.Prelude.{ℕ, ◌-◌, ◌<◌, ◌≤◌, Bool, true, false, cond, not, List, [], ◌∷◌, map, length, drop, codes, filter}
 use Rattle.std.proofs.Common.{arith}
 use Rattle.std.specs.Char.{to_ascii_lowercase}
-use Rattle.std.specs.List.{prefix_len, suffix_len, AllByRecursion as All}
+use Rattle.std.specs.List.{prefix_len, suffix_len, AllByRecursion}
 use Rattle.std.proofs.ByRecursion.{All-weaker, All-map, All-take}
 use Rattle.std.proofs.lemmas.Bool.Decides.{nat_tests}
 use Rattle.characters.specs.declared.Part.{Part}
@@ -13,9 +13,9 @@ use Rattle.protections.specs.Words.{among}
 use Rattle.protections.specs.Keys.{lowered, before, trimmed, ignored, hfs_key, ntfs_key, device_key}
 
 abbrev pub Bounded : List ℕ → Type 0
-Bounded s = All (λ n. n ≤ 1114111) s
+Bounded s = AllByRecursion (λ n. n ≤ 1114111) s
 
-pub bytes_bounded : (s : List ℕ) → All (λ b. b < 256) s → Bounded s
+pub bytes_bounded : (s : List ℕ) → AllByRecursion (λ b. b < 256) s → Bounded s
 bytes_bounded s h = All-weaker (λ b. b < 256) (λ n. n ≤ 1114111) (λ b l. omega arith) s h
 
 lower_bounded : (n : ℕ) → n ≤ 1114111 → to_ascii_lowercase n ≤ 1114111

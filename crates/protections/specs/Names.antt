@@ -1,6 +1,6 @@
 -- The names that the verdicts look for, as keys.
 use Rattle.std.specs.Prelude.{◌≡◌, ℕ, ◌-◌, ◌≤◌, Bool, false, not, ◌&&◌, List, [], ◌∷◌, ◌++◌, map, length, take, drop, codes, filter, ◌==◌, nat_le}
-use Rattle.std.specs.List.{AllByRecursion as All}
+use Rattle.std.specs.List.{AllByRecursion}
 use Rattle.protections.specs.Words.{equals, some}
 
 abbrev pub git : List ℕ
@@ -29,7 +29,7 @@ pub record ShortName (k : List ℕ) : Type 0 where
   pub to_nine : first ≤ 57
   pub digits : List ℕ
   pub as_many : length digits ≡ 6 - kept
-  pub each : All (λ d. (48 ≤ d) × (d ≤ 57)) digits
+  pub each : AllByRecursion (λ d. (48 ≤ d) × (d ≤ 57)) digits
   pub whole : k ≡ take kept short ++ 126 ∷ first ∷ digits
 
 -- the same as a test, at a number of bytes kept

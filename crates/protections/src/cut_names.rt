@@ -1,7 +1,7 @@
 //! Fixed names at the front of a component, where fillers after the name do not count.
 ghost use Rattle.std.specs.Prelude.{◌≡◌, ℕ, true, false, not, List, [], map};
 ghost use Rattle.std.specs.Char.{to_ascii_lowercase};
-ghost use Rattle.std.specs.List.{AllByRecursion as All};
+ghost use Rattle.std.specs.List.{AllByRecursion};
 ghost use Rattle.protections.specs.Words.{equals, some, among, listed};
 ghost use Rattle.protections.specs.Keys.{cut_key, cut_name, ended};
 
@@ -95,7 +95,7 @@ pub(crate) fn cut_named<C: Cut>(cut: &C, component: &[u8], name: &[u8]) -> bool
 
 // Whether the component is one of the names, its letters in any case, and then only fillers.
 pub(crate) fn cut_named_among<C: Cut>(cut: &C, component: &[u8], names: &[&[u8]]) -> bool
-    requires { All (λ n. cut_name C.Cut.stops C.Cut.fillers n ≡ true) (map (λ x. x.now) names.now) }
+    requires { AllByRecursion (λ n. cut_name C.Cut.stops C.Cut.fillers n ≡ true) (map (λ x. x.now) names.now) }
     ensures { result ≡ listed (map (λ x. x.now) names.now) (cut_key C.Cut.stops C.Cut.fillers component.now) }
 {
     for name in names {

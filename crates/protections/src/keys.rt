@@ -1,6 +1,6 @@
 //! Keys: lists of numbers by which components are compared, and the one comparison.
 ghost use Rattle.std.specs.Prelude.{◌≡◌, ℕ, ◌<◌, ◌≤◌, List, Decides};
-ghost use Rattle.std.specs.List.{AllByRecursion as All};
+ghost use Rattle.std.specs.List.{AllByRecursion};
 ghost use Rattle.protections.specs.Words.{Takes, equals};
 ghost use Rattle.protections.specs.Keys.{lowered};
 ghost use Rattle.std.specs.Char.{to_ascii_lowercase};
@@ -20,7 +20,7 @@ pub trait Keyed {
     fn advance(&self, rest: &mut &[u8]) -> Option<u32>
         ensures { Takes (remaining self.now rest.old.now) result (remaining self.now rest.new.now) };
 
-    ghost within: { (p : Self) (s : List ℕ) → All (λ b. b < 256) s → All (λ n. n ≤ 1114111) (key p s) };
+    ghost within: { (p : Self) (s : List ℕ) → AllByRecursion (λ b. b < 256) s → AllByRecursion (λ n. n ≤ 1114111) (key p s) };
 }
 
 /// Walks a component, and yields the numbers of its key.
@@ -34,7 +34,7 @@ impl<'p, 'a, P: Keyed> Cursor<'p, 'a, P> {
     /// A cursor before the first number of the component's key.
     pub fn new(protection: &'p P, component: &'a [u8]) -> Cursor<'p, 'a, P>
         ensures numbers { P.Keyed.remaining result.protection.now result.rest.now ≡ P.Keyed.key protection.now component.now }
-        ensures bound { All (λ n. n ≤ 1114111) (P.Keyed.key protection.now component.now) }
+        ensures bound { AllByRecursion (λ n. n ≤ 1114111) (P.Keyed.key protection.now component.now) }
     {
         let rest = protection.start(component);
         Cursor { protection, rest }

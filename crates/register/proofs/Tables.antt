@@ -9,7 +9,8 @@ use Rattle.std.proofs.lemmas.Bool.{cases_Bool}
 use Rattle.protections.specs.declared.rules.Mode.{Mode}
 use Rattle.claims.specs.Calls.{Kept}
 use Rattle.claims.specs.Entries.{Entry, before, put, slot}
-use Rattle.register.specs.Rows.{entries_of, entry_of, number_in, without}
+use Rattle.register.specs.Rows.{entries_of, entry_of, name_of, number_in, without}
+use Rattle.register.specs.declared.table.Name.{Name}
 use Rattle.register.specs.declared.table.Row.{Row}
 use Rattle.register.specs.declared.table.Table.{Table}
 
@@ -42,14 +43,15 @@ module _ (t : Table) (i : ℕ) where
   shown = let z : t.count ≡ t.count - 0 = omega arith in ap (λ n. map entry_of (take n t.rows)) z
 
   -- The entry at a place is that of its row, and the others follow.
-  pub row_here : (d : Row) → i < length (take (t.count - 0) t.rows)
-      → drop i (entries_of t) ≡ entry_of (get_or (take (t.count - 0) t.rows) i d) ∷ drop (i + 1) (entries_of t)
-  row_here d h =
+  pub row_here : (row : Row) → row ≡ get_or (take (t.count - 0) t.rows) i row → i < length (take (t.count - 0) t.rows)
+      → drop i (entries_of t) ≡ entry_of row ∷ drop (i + 1) (entries_of t)
+  row_here row e h =
       let xs = take (t.count - 0) t.rows in
       ap (drop i) shown
       ∙ (drop-map entry_of i xs
-      ∙ (ap (map entry_of) (drop_more xs i d h)
-      ∙ ap (λ es. entry_of (get_or xs i d) ∷ es) (sym (drop-map entry_of (i + 1) xs) ∙ ap (drop (i + 1)) (sym shown))))
+      ∙ (ap (map entry_of) (drop_more xs i row h)
+      ∙ (ap (λ r. entry_of r ∷ map entry_of (drop (i + 1) xs)) (sym e)
+      ∙ ap (λ es. entry_of row ∷ es) (sym (drop-map entry_of (i + 1) xs) ∙ ap (drop (i + 1)) (sym shown)))))
 
   -- Past the last row there is no entry.
   pub row_none : length (take (t.count - 0) t.rows) ≤ i → drop i (entries_of t) ≡ []
@@ -121,3 +123,8 @@ row_written t p d es e h s l =
 pub put_by : (es fs : Kept) (d e : Entry (Option Mode)) (r : ℕ) → es ≡ fs → d ≡ e → r ≡ slot e.name es
     → take r es ++ d ∷ drop r es ≡ put e fs
 put_by es fs d e r s q n = rw (n, q, s)
+
+-- The entry of a row made of these.
+pub entry_by : (row : Row) (n : Name) (x : List ℕ) (k : ℕ) (mode : Option Mode)
+    → (row.name ≡ n) × (row.number ≡ k) × (row.mode ≡ mode) → name_of n ≡ x → entry_of row ≡ record { name = x; number = k; mode = mode }
+entry_by row n x k mode r e = rw (r.0, r.1, r.2, e)

@@ -1,7 +1,6 @@
 -- What a register's rulebook and file system mean, from what their types state.
 use Rattle.std.specs.Prelude.{ℕ, List}
 use Rattle.rulebooks.specs.declared.Rulebook as rulebook
-use Rattle.rulebooks.specs.declared.MendingRulebook as mending
 use Rattle.filesystems.specs.declared.interface.FileSystem as interface
 use Rattle.claims.specs.Calls.{Meaning}
 use Rattle.register.specs.declared.Register.{Register}
@@ -17,12 +16,12 @@ meaning_of r f files = record {
   keys = f.keys files;
 }
 
--- Of a mending rulebook.
-abbrev pub mending_meaning : {R F : Type 0} → rulebook.Ghosts R → mending.Ghosts R → interface.Ghosts F → F → Meaning
-mending_meaning r m f files = record {
+-- Of a mending rulebook, with what it mends a text to.
+abbrev pub mending_meaning : {R F : Type 0} → rulebook.Ghosts R → (List ℕ → List ℕ) → interface.Ghosts F → F → Meaning
+mending_meaning r mended f files = record {
   kind = r.kind;
   ruled = r.meaning;
-  mended = m.mended;
+  mended = mended;
   judged = f.judged files;
   together = f.together files;
   keys = f.keys files;
@@ -32,5 +31,5 @@ mending_meaning r m f files = record {
 abbrev pub meaning_in : {R F : Type 0} → rulebook.Ghosts R → interface.Ghosts F → Register R F → Meaning
 meaning_in r f register = meaning_of r f register.files
 
-abbrev pub mending_meaning_in : {R F : Type 0} → rulebook.Ghosts R → mending.Ghosts R → interface.Ghosts F → Register R F → Meaning
-mending_meaning_in r m f register = mending_meaning r m f register.files
+abbrev pub mending_meaning_in : {R F : Type 0} → rulebook.Ghosts R → (List ℕ → List ℕ) → interface.Ghosts F → Register R F → Meaning
+mending_meaning_in r mended f register = mending_meaning r mended f register.files

@@ -15,8 +15,8 @@ use rulebooks::{MendingRulebook, mend_into};
 impl<R: MendingRulebook, F: FileSystem> Register<R, F> {
     /// Mends a text and puts the mended text in, with its number and no mode, and answers its place.
     pub fn offer(&mut self, text: &[u8], number: u32) -> Result<usize, Fault>
-        ensures answer { outcome_of result ≡ offering (mending_meaning_in R.Rulebook R.MendingRulebook F.FileSystem self.old) (entries_in self.old) text.now }
-        ensures entries { entries_in self.new ≡ entries_after (mending_meaning_in R.Rulebook R.MendingRulebook F.FileSystem self.old) (entries_in self.old) (an_offer text.now number) }
+        ensures answer { outcome_of result ≡ offering (mending_meaning_in R.Rulebook R.MendingRulebook.mended F.FileSystem self.old) (entries_in self.old) text.now }
+        ensures entries { entries_in self.new ≡ entries_after (mending_meaning_in R.Rulebook R.MendingRulebook.mended F.FileSystem self.old) (entries_in self.old) (an_offer text.now number) }
         ensures same_rules { SameRules self.old self.new }
         ensures unaltered { OnErr result (self.new ≡ self.old) }
     {

@@ -1,7 +1,7 @@
 -- An allowed name has no empty component.
 use Rattle.std.specs.Prelude.{◌≡◌, ℕ, ◌+◌, List, [], ◌∷◌, ◌++◌, ◌≢◌, refl}
 use Rattle.std.proofs.Common.{⊎_elim, sym, ap, subst, arith}
-use Rattle.std.specs.List.{AllByRecursion as All}
+use Rattle.std.specs.List.{AllByRecursion}
 use Rattle.tag.specs.Answers.{Answer}
 use Rattle.tag.specs.Answers.Answer.{allowed as answer_allowed, refused as answer_refused}
 use Rattle.tag.specs.Components.{components, Among}
@@ -29,7 +29,7 @@ cons_filled b c e = let z : ◌≡◌ {A = ℕ} 0 1 = cc in omega arith
 -- Where s, with the byte a before it, has no two slashes side by side and none at its end, each component has a byte, the
 -- first one if a slash stands before it.
 filled_parts : {s c : List ℕ} {cs : List (List ℕ)} → Parts s c cs → (a : ℕ) → Lacks (47 ∷ (47 ∷ [])) (a ∷ s)
-    → (Ends (47 ∷ []) (a ∷ s) → ⊥) → (a ≡ 47 → Filled c) × All Filled cs
+    → (Ends (47 ∷ []) (a ∷ s) → ⊥) → (a ≡ 47 → Filled c) × AllByRecursion Filled cs
 filled_parts ends a l n = (λ e _. n ([], ap (λ x. x ∷ []) e), tt)
 filled_parts (slash {s} p) a l n =
     let r = filled_parts p 47 (λ f t e. l (a ∷ f) t (ap (λ x. a ∷ x) e)) (λ e. n (a ∷ e.0, ap (λ x. a ∷ x) e.1)) in

@@ -30,4 +30,4 @@ campus = record {
 
 -- What the rulebook and the file system of such a register state.
 abbrev pub stated : Register PartialNames (Layer Hfs (Layer Ntfs PlainBottom)) → Meaning
-stated r = mending_meaning_in rules.ghosts mender.ghosts mac_and_windows r
+stated r = mending_meaning_in rules.ghosts mender.ghosts.mended mac_and_windows r

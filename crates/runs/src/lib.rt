@@ -63,8 +63,8 @@ fn make_call<R: MendingRulebook, F: FileSystem>(
     register: &mut Register<R, F>,
     call: Call<'_>,
 ) -> Answer
-    ensures answer { outcome_of result ≡ answer_laid_down (mending_meaning_in R.Rulebook R.MendingRulebook F.FileSystem register.old) (entries_in register.old) (call_of call.entry) }
-    ensures entries { entries_in register.new ≡ entries_after (mending_meaning_in R.Rulebook R.MendingRulebook F.FileSystem register.old) (entries_in register.old) (call_of call.entry) }
+    ensures answer { outcome_of result ≡ answer_laid_down (mending_meaning_in R.Rulebook R.MendingRulebook.mended F.FileSystem register.old) (entries_in register.old) (call_of call.entry) }
+    ensures entries { entries_in register.new ≡ entries_after (mending_meaning_in R.Rulebook R.MendingRulebook.mended F.FileSystem register.old) (entries_in register.old) (call_of call.entry) }
     ensures same_rules { SameRules register.old register.new }
 {
     match call {
@@ -103,11 +103,11 @@ pub fn perform<R: MendingRulebook, F: FileSystem>(
     answers: &mut [Answer],
 ) -> usize
     ensures count { result ≡ min (length calls.now) (length answers.old) }
-    ensures answered { map outcome_of (take result answers.new) ≡ answers_laid_down (mending_meaning_in R.Rulebook R.MendingRulebook F.FileSystem register.old) (entries_in register.old) (map call_of (take result calls.now)) }
-    ensures entries { entries_in register.new ≡ entries_left (mending_meaning_in R.Rulebook R.MendingRulebook F.FileSystem register.old) (entries_in register.old) (map call_of (take result calls.now)) }
-    ensures ran { Ran (mending_meaning_in R.Rulebook R.MendingRulebook F.FileSystem register.old) (entries_in register.old) (history (map call_of (take result calls.now)) (map outcome_of (take result answers.new))) (entries_in register.new) }
-    ensures claim { entries_in register.old ≡ [] → Claim (mending_meaning_in R.Rulebook R.MendingRulebook F.FileSystem register.old) (history (map call_of (take result calls.now)) (map outcome_of (take result answers.new))) (entries_in register.new) }
-    ensures offers { OffersClaim (mending_meaning_in R.Rulebook R.MendingRulebook F.FileSystem register.old) (history (map call_of (take result calls.now)) (map outcome_of (take result answers.new))) }
+    ensures answered { map outcome_of (take result answers.new) ≡ answers_laid_down (mending_meaning_in R.Rulebook R.MendingRulebook.mended F.FileSystem register.old) (entries_in register.old) (map call_of (take result calls.now)) }
+    ensures entries { entries_in register.new ≡ entries_left (mending_meaning_in R.Rulebook R.MendingRulebook.mended F.FileSystem register.old) (entries_in register.old) (map call_of (take result calls.now)) }
+    ensures ran { Ran (mending_meaning_in R.Rulebook R.MendingRulebook.mended F.FileSystem register.old) (entries_in register.old) (history (map call_of (take result calls.now)) (map outcome_of (take result answers.new))) (entries_in register.new) }
+    ensures claim { entries_in register.old ≡ [] → Claim (mending_meaning_in R.Rulebook R.MendingRulebook.mended F.FileSystem register.old) (history (map call_of (take result calls.now)) (map outcome_of (take result answers.new))) (entries_in register.new) }
+    ensures offers { OffersClaim (mending_meaning_in R.Rulebook R.MendingRulebook.mended F.FileSystem register.old) (history (map call_of (take result calls.now)) (map outcome_of (take result answers.new))) }
     ensures rest { drop result answers.new ≡ drop result answers.old }
     ensures same_rules { SameRules register.old register.new }
 {
@@ -131,8 +131,8 @@ pub fn audit_changes<R: Rulebook, F: FileSystem>(register: &Register<R, F>) -> u
 /// The same where the rulebook mends, so that calls may be offers.
 pub fn audit<R: MendingRulebook, F: FileSystem>(register: &Register<R, F>) -> usize
     ensures count { result ≡ length (entries_in register.now) }
-    ensures claim { (ds : List Done) → Ran (mending_meaning_in R.Rulebook R.MendingRulebook F.FileSystem register.now) [] ds (entries_in register.now) → Claim (mending_meaning_in R.Rulebook R.MendingRulebook F.FileSystem register.now) ds (entries_in register.now) }
-    ensures offers { (ds : List Done) → Ran (mending_meaning_in R.Rulebook R.MendingRulebook F.FileSystem register.now) [] ds (entries_in register.now) → OffersClaim (mending_meaning_in R.Rulebook R.MendingRulebook F.FileSystem register.now) ds }
+    ensures claim { (ds : List Done) → Ran (mending_meaning_in R.Rulebook R.MendingRulebook.mended F.FileSystem register.now) [] ds (entries_in register.now) → Claim (mending_meaning_in R.Rulebook R.MendingRulebook.mended F.FileSystem register.now) ds (entries_in register.now) }
+    ensures offers { (ds : List Done) → Ran (mending_meaning_in R.Rulebook R.MendingRulebook.mended F.FileSystem register.now) [] ds (entries_in register.now) → OffersClaim (mending_meaning_in R.Rulebook R.MendingRulebook.mended F.FileSystem register.now) ds }
 {
     audit_changes(register)
 }

@@ -1,6 +1,6 @@
 -- A tag name is allowed exactly where it keeps the rules of the manual page.
 use Rattle.std.proofs.Common.{◌≡◌, ℕ, false, List, [], ◌∷◌, ◌++◌, is_ok, Ok, Err, Decides, Result, sym, refl, ap, ◌∙◌, subst, inl, inr, ⊎_elim, arith}
-use Rattle.std.specs.List.{AllByRecursion as All}
+use Rattle.std.specs.List.{AllByRecursion}
 use Rattle.std.proofs.lemmas.List.Prefix.{end_from_reads}
 use Rattle.std.proofs.lemmas.List.{append-nil, append_assoc}
 use Rattle.std.proofs.lemmas.Bool.{false≢true, cases_Bool}
@@ -56,7 +56,7 @@ Dotless c = Begins (46 ∷ []) c → ⊥
 
 -- Where the bytes follow each other, no component after a slash begins with a dot.
 dotless_parts : {s c : List ℕ} {cs : List (List ℕ)} → Parts s c cs → (a : ℕ) → Follows a s
-    → (a ≡ 47 → Dotless c) × All Dotless cs
+    → (a ≡ 47 → Dotless c) × AllByRecursion Dotless cs
 dotless_parts ends a h = (λ _ b. let z : ◌≡◌ {A = ℕ} 0 1 = cc in omega arith, tt)
 dotless_parts (slash p) a h =
     let r = dotless_parts p 47 h.1 in
@@ -74,7 +74,7 @@ lockless c n = ⊎_elim (λ t. absurd (n ((lock_decides c).0 t))) (λ f. f) (cas
 
 -- No slash and no end after .lock: no component ends with it, the first one with `front` before it.
 unlocked_parts : {s c : List ℕ} {cs : List (List ℕ)} → Parts s c cs → (front : List ℕ) → Unlocked front s
-    → Lockless (front ++ c) × All Lockless cs
+    → Lockless (front ++ c) × AllByRecursion Lockless cs
 unlocked_parts ends front h = (ap ends_in_lock (append-nil front) ∙ h, tt)
 unlocked_parts (slash {s} {c} p) front h =
     let r = unlocked_parts p (front ++ 47 ∷ []) h.1 in (
@@ -87,7 +87,7 @@ unlocked_parts (other {b} {s} {c} n p) front h =
 
 -- No component ends with .lock, the first one with `front` before it: no slash and no end after .lock
 parts_unlocked : {s c : List ℕ} {cs : List (List ℕ)} → Parts s c cs → (front : List ℕ) → Lockless (front ++ c)
-    → All Lockless cs → Unlocked front s
+    → AllByRecursion Lockless cs → Unlocked front s
 parts_unlocked ends front h k = ap ends_in_lock (sym (append-nil front)) ∙ h
 parts_unlocked (slash {s} {c} p) front h k = (
   λ _. ap ends_in_lock (sym (append-nil front)) ∙ h,
@@ -144,7 +144,7 @@ pair_passes : (x y : ℕ) → invalid y ≡ false → (y ≡ 42 → ⊥) → (x 
 pair_passes x y v star dots dot reflog slashes = grind (arith, nat_tests)
 
 -- The bytes follow each other where each two neighbours do, a dot after a slash left to the components.
-follows_parts : {s c : List ℕ} {cs : List (List ℕ)} → Parts s c cs → (a : ℕ) → (a ≡ 47 → Dotless c) → All Dotless cs
+follows_parts : {s c : List ℕ} {cs : List (List ℕ)} → Parts s c cs → (a : ℕ) → (a ≡ 47 → Dotless c) → AllByRecursion Dotless cs
     → ((f : List ℕ) (x y : ℕ) (r : List ℕ) → a ∷ s ≡ f ++ x ∷ (y ∷ r) → (x ≡ 47 → y ≡ 46 → ⊥) → pair x y ≡ allowed)
     → Follows a s
 follows_parts ends a d ds near = tt

@@ -13,7 +13,7 @@ use Rattle.listing.proofs.list.Goals as goal
 
 pub returns : goal.returns
 returns g c =
-    let m = mending_meaning_in g.R.Rulebook g.R.MendingRulebook g.F.FileSystem c.args.register.now in
+    let m = mending_meaning_in g.R.Rulebook g.R.MendingRulebook.mended g.F.FileSystem c.args.register.now in
     let es = entries_in c.args.register.now in
     let p = c.perform.ensures in
     let A = c.perform.new.answers in

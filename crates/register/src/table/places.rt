@@ -70,9 +70,7 @@ impl Table {
         ensures count { self.new.count ≡ self.old.count }
     {
         let fresh = Name::new(name);
-        let row = &mut self.rows[place];
-        row.name = fresh;
-        row.mode = mode;
+        self.rows[place].relabel(fresh, mode);
     }
 
     /// Gives the row at a place another name and mode, and moves it to the place of that name, which is the answer.

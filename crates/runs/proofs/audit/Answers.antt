@@ -6,7 +6,7 @@ use Rattle.runs.proofs.audit.Given as given
 use Rattle.runs.proofs.audit.Goals as goal
 
 -- The rulebook and the file system keep their laws.
-lawful : (g : given.Over) (files : g.row.F.Denot) → Lawful (mending_meaning g.R.Rulebook g.R.MendingRulebook g.F.FileSystem files)
+lawful : (g : given.Over) (files : g.row.F.Denot) → Lawful (mending_meaning g.R.Rulebook g.R.MendingRulebook.mended g.F.FileSystem files)
 lawful g files = record {
   filled = g.met.R.Rulebook.filled;
   symmetric = g.met.F.FileSystem.symmetric files;
@@ -14,7 +14,7 @@ lawful g files = record {
   keyed = (g.met.F.FileSystem.keyed files).1;
 }
 
-mending : (g : given.Over) (files : g.row.F.Denot) → Mending (mending_meaning g.R.Rulebook g.R.MendingRulebook g.F.FileSystem files)
+mending : (g : given.Over) (files : g.row.F.Denot) → Mending (mending_meaning g.R.Rulebook g.R.MendingRulebook.mended g.F.FileSystem files)
 mending g files = record {
   mended_allowed = g.met.R.MendingRulebook.always_allowed;
   mended_short = g.met.R.MendingRulebook.no_longer;
@@ -23,7 +23,7 @@ mending g files = record {
 
 pub returns : goal.returns
 returns g c =
-    let m = mending_meaning_in g.R.Rulebook g.R.MendingRulebook g.F.FileSystem c.args.register.now in
+    let m = mending_meaning_in g.R.Rulebook g.R.MendingRulebook.mended g.F.FileSystem c.args.register.now in
     record {
       count = c.audit-changes.ensures.count;
       claim = λ ds r. claim m (lawful g c.args.register.now.files) _ ds _ r refl;

@@ -11,7 +11,7 @@ use Rattle.runs.proofs.perform.Given as given
 use Rattle.runs.proofs.perform.Goals as goal
 
 -- The rulebook and the file system keep their laws.
-lawful : (g : given.Over) (files : g.row.F.Denot) → Lawful (mending_meaning g.R.Rulebook g.R.MendingRulebook g.F.FileSystem files)
+lawful : (g : given.Over) (files : g.row.F.Denot) → Lawful (mending_meaning g.R.Rulebook g.R.MendingRulebook.mended g.F.FileSystem files)
 lawful g files = record {
   filled = g.met.R.Rulebook.filled;
   symmetric = g.met.F.FileSystem.symmetric files;
@@ -19,7 +19,7 @@ lawful g files = record {
   keyed = (g.met.F.FileSystem.keyed files).1;
 }
 
-mending : (g : given.Over) (files : g.row.F.Denot) → Mending (mending_meaning g.R.Rulebook g.R.MendingRulebook g.F.FileSystem files)
+mending : (g : given.Over) (files : g.row.F.Denot) → Mending (mending_meaning g.R.Rulebook g.R.MendingRulebook.mended g.F.FileSystem files)
 mending g files = record {
   mended_allowed = g.met.R.MendingRulebook.always_allowed;
   mended_short = g.met.R.MendingRulebook.no_longer;
@@ -28,7 +28,7 @@ mending g files = record {
 
 pub loop-i-init : goal.loop-i-init
 loop-i-init g c = (
-  none_yet call_of outcome_of (mending_meaning_in g.R.Rulebook g.R.MendingRulebook g.F.FileSystem c.args.register.now) (entries_in c.args.register.now) c.args.calls.now c.args.answers.now,
+  none_yet call_of outcome_of (mending_meaning_in g.R.Rulebook g.R.MendingRulebook.mended g.F.FileSystem c.args.register.now) (entries_in c.args.register.now) c.args.calls.now c.args.answers.now,
   omega arith,
   refl,
   (refl, refl),
@@ -36,7 +36,7 @@ loop-i-init g c = (
 
 pub returns-then-i-answers : goal.returns-then-i-answers
 returns-then-i-answers g c =
-    let m = mending_meaning_in g.R.Rulebook g.R.MendingRulebook g.F.FileSystem c.args.register.now in
+    let m = mending_meaning_in g.R.Rulebook g.R.MendingRulebook.mended g.F.FileSystem c.args.register.now in
     let ran = made_ran call_of outcome_of m _ _ _ _ _ c.loop-i.invariant.0 in
     record {
       count = omega (arith, c.if-i-answers.true, c.loop-i-test.true, c.loop-i.auto.answers);
@@ -51,13 +51,13 @@ returns-then-i-answers g c =
 
 pub loop-i-preserved : goal.loop-i-preserved
 loop-i-preserved g c =
-    let m = mending_meaning_in g.R.Rulebook g.R.MendingRulebook g.F.FileSystem c.args.register.now in
+    let m = mending_meaning_in g.R.Rulebook g.R.MendingRulebook.mended g.F.FileSystem c.args.register.now in
     let es = entries_in c.loop-i.register in
     let h : c.loop-i.i < length c.args.calls.now = omega (arith, c.loop-i-test.true) in
     let k : c.loop-i.i < length c.loop-i.answers = omega arith in
     let f = c.loop-i.invariant.3.1 in (
       one_more call_of outcome_of m (entries_in c.args.register.now) c.args.calls.now c.loop-i.answers c.loop-i.i _ es h k c.loop-i.invariant.0 _
-          (ap (mending_meaning g.R.Rulebook g.R.MendingRulebook g.F.FileSystem) f) _ _ c.make-call.ensures.answer c.make-call.ensures.entries,
+          (ap (mending_meaning g.R.Rulebook g.R.MendingRulebook.mended g.F.FileSystem) f) _ _ c.make-call.ensures.answer c.make-call.ensures.entries,
       simp length-set (omega arith),
       rest_stays c.loop-i.answers c.args.answers.now c.loop-i.i _ c.loop-i.invariant.2,
       (c.make-call.ensures.same-rules.0 ∙ c.loop-i.invariant.3.0, c.make-call.ensures.same-rules.1 ∙ f),
@@ -65,7 +65,7 @@ loop-i-preserved g c =
 
 pub returns : goal.returns
 returns g c =
-    let m = mending_meaning_in g.R.Rulebook g.R.MendingRulebook g.F.FileSystem c.args.register.now in
+    let m = mending_meaning_in g.R.Rulebook g.R.MendingRulebook.mended g.F.FileSystem c.args.register.now in
     let ran = made_ran call_of outcome_of m _ _ _ _ _ c.loop-i.invariant.0 in
     let z : c.loop-i.i ≡ length c.args.calls.now = omega (arith, c.loop-i-test.false, c.loop-i.auto.i-end) in
     rw (← z)

@@ -9,5 +9,5 @@ use Rattle.runs.proofs.perform.Given as goal
 
 abbrev pub invariant-loop-i : goal.invariant-loop-i
 invariant-loop-i g l =
-    Made call_of outcome_of (mending_meaning_in g.R.Rulebook g.R.MendingRulebook g.F.FileSystem l.initial.register) (entries_in l.initial.register) l.calls l.answers l.i (entries_in l.register)
+    Made call_of outcome_of (mending_meaning_in g.R.Rulebook g.R.MendingRulebook.mended g.F.FileSystem l.initial.register) (entries_in l.initial.register) l.calls l.answers l.i (entries_in l.register)
     × (l.i ≤ length l.answers) × (drop l.i l.answers ≡ drop l.i l.initial.answers) × SameRules l.initial.register l.register

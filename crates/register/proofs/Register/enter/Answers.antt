@@ -7,7 +7,7 @@ use Rattle.register.specs.Meanings.{meaning_of}
 use Rattle.register.specs.Rows.{entries_of}
 use Rattle.register.proofs.Answering.{accepted_leaves, enter_accepted, enter_faulty, enter_full, enter_met, refused_leaves}
 use Rattle.register.proofs.Naming.{fine_short}
-use Rattle.register.proofs.Tables.{count_length, put_by, slot_within}
+use Rattle.register.proofs.Tables.{count_length, entry_by, put_by, slot_within}
 use Rattle.register.proofs.Register.enter.Goals as goal
 
 pub returns-in_err-check_name : goal.returns-in_err-check_name
@@ -56,7 +56,7 @@ returns g c =
     record {
       answer = ap accepted c.slot-place.ensures ∙ a;
       entries = c.insert.ensures
-          ∙ (put_by es es _ (record { name = c.args.name.now; number = c.args.number; mode = c.args.mode }) _ refl c.new.ensures c.slot-place.ensures
+          ∙ (put_by es es _ (record { name = c.args.name.now; number = c.args.number; mode = c.args.mode }) _ refl (entry_by _ _ _ _ _ c.new-2.ensures c.new.ensures) c.slot-place.ensures
           ∙ accepted_leaves m es (enter c.args.name.now c.args.number c.args.mode) _ a);
       same_rules = (refl, refl);
       unaltered = tt;

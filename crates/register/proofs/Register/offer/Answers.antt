@@ -8,7 +8,7 @@ use Rattle.register.proofs.Register.offer.Goals as goal
 
 pub returns-then-text-gt-LONGEST : goal.returns-then-text-gt-LONGEST
 returns-then-text-gt-LONGEST g c =
-    let m = mending_meaning g.R.Rulebook g.R.MendingRulebook g.F.FileSystem c.args.self.now.files in
+    let m = mending_meaning g.R.Rulebook g.R.MendingRulebook.mended g.F.FileSystem c.args.self.now.files in
     let es = entries_of c.args.self.now.table in
     let a = offer_long m es c.args.text.now c.if-text-gt-LONGEST.true in
     record { answer = a; entries = refused_leaves m es (offer c.args.text.now c.args.number) _ a; same_rules = (refl, refl); unaltered = refl }
@@ -16,7 +16,7 @@ returns-then-text-gt-LONGEST g c =
 pub returns : goal.returns
 unfolding entering name_fault
 returns g c =
-    let m = mending_meaning g.R.Rulebook g.R.MendingRulebook g.F.FileSystem c.args.self.now.files in
+    let m = mending_meaning g.R.Rulebook g.R.MendingRulebook.mended g.F.FileSystem c.args.self.now.files in
     let es = entries_of c.args.self.now.table in
     let text = c.args.text.now in
     let n = c.in-Ok.length in

@@ -1,5 +1,5 @@
 -- Each turn passes a component that both names have.
-use Rattle.std.proofs.Common.{◌≡◌, ◌+◌, ◌-◌, ◌<◌, ◌⊎◌, length, take, drop, sym, ap, ◌∙◌, inl, inr, ⊎_elim, arith}
+use Rattle.std.proofs.Common.{◌≡◌, ◌+◌, ◌-◌, ◌<◌, ◌⊎◌, length, take, drop, Decides, sym, ap, ◌∙◌, inl, inr, ⊎_elim, arith}
 use Rattle.std.proofs.lemmas.Slice.Eq.{slice_eq-Decides}
 use Rattle.std.proofs.lemmas.List.{length-drop, take_rest}
 use Rattle.std.proofs.lemmas.Bool.{both_ways}
@@ -16,7 +16,7 @@ returns-then-not-eq g c =
     let n = c.component_end-n.result in
     let zm : m - 0 ≡ m = omega arith in
     let zn : n - 0 ≡ n = omega arith in
-    let d = slice_eq-Decides Decides-eqb _ _ _ c.eq.ensures in
+    let d : Decides c.eq.result (take (m - 0) a ≡ take (n - 0) b) = slice_eq-Decides Decides-eqb _ _ _ c.eq.ensures in
     let apart : take m a ≡ take n b → ⊥ = λ e. both_ways c.eq.result c.if-not-eq.true (d.1 (ap (λ k. take k a) zm ∙ (e ∙ sym (ap (λ k. take k b) zn)))) in
     (rw (zm, zn) at c.lie_together.ensures)
     ∙ (differ_here (g.F.FileSystem.together c.args.files.now) a b m n c.component_end-m.ensures c.component_end-n.ensures apart
@@ -30,7 +30,7 @@ returns-then-m-a g c =
     let n = c.component_end-n.result in
     let zm : m - 0 ≡ m = omega arith in
     let zn : n - 0 ≡ n = omega arith in
-    let d = slice_eq-Decides Decides-eqb _ _ _ c.eq.ensures in
+    let d : Decides c.eq.result (take (m - 0) a ≡ take (n - 0) b) = slice_eq-Decides Decides-eqb _ _ _ c.eq.ensures in
     let same : take m a ≡ take n b = rw (zm, zn) at (d.0 c.if-not-eq.false) in
     let one : (m ≡ length a) ⊎ (n ≡ length b) = ⊎_elim inl (λ p. inr p.1) c.then-m-a.either in
     ends_here (g.F.FileSystem.together c.args.files.now) a b m n c.component_end-m.ensures c.component_end-n.ensures same one
@@ -44,7 +44,7 @@ loop-a-preserved g c =
     let n = c.component_end-n.result in
     let zm : m - 0 ≡ m = omega arith in
     let zn : n - 0 ≡ n = omega arith in
-    let d = slice_eq-Decides Decides-eqb _ _ _ c.eq.ensures in
+    let d : Decides c.eq.result (take (m - 0) a ≡ take (n - 0) b) = slice_eq-Decides Decides-eqb _ _ _ c.eq.ensures in
     let same : take m a ≡ take n b = rw (zm, zn) at (d.0 c.if-not-eq.false) in
     let lm : m < length a = omega (arith, c.component_end-m.ensures.0) in
     let ln : n < length b = omega (arith, c.component_end-n.ensures.0) in

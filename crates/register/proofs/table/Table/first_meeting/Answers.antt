@@ -21,7 +21,7 @@ rows-preserved-then-is_left_out g c =
     let t = g.F.FileSystem.together c.args.files.now in
     let except = option_map (λ x. x.now) c.args.except in
     not_here (λ e. not (left_out except e.name) && meet t e.name c.args.name.now) (entries_of c.args.self.now) _ c.rows.invariant _
-    (row_here c.args.self.now c.rows.place _ c.rows-test.true)
+    (row_here c.args.self.now c.rows.place _ c.row-item.is c.rows-test.true)
     (passes t except _ _ c.args.name.now true _ c.as_bytes-old.ensures c.if-is_left_out.ensures refl)
 
 pub rows-preserved : goal.rows-preserved
@@ -29,7 +29,7 @@ rows-preserved g c =
     let t = g.F.FileSystem.together c.args.files.now in
     let except = option_map (λ x. x.now) c.args.except in
     not_here (λ e. not (left_out except e.name) && meet t e.name c.args.name.now) (entries_of c.args.self.now) _ c.rows.invariant _
-    (row_here c.args.self.now c.rows.place _ c.rows-test.true)
+    (row_here c.args.self.now c.rows.place _ c.row-item.is c.rows-test.true)
     (passes t except _ _ c.args.name.now false false c.as_bytes-old.ensures c.if-is_left_out.ensures (sym c.components.invariant ∙ c.in-Apart.ensures))
 
 pub returns-in-Met : goal.returns-in-Met
@@ -38,7 +38,7 @@ returns-in-Met g c =
     let t = g.F.FileSystem.together c.args.files.now in
     let except = option_map (λ x. x.now) c.args.except in
     found_here (λ e. not (left_out except e.name) && meet t e.name c.args.name.now) (entries_of c.args.self.now) _ c.rows.invariant _
-    (row_here c.args.self.now c.rows.place _ c.rows-test.true)
+    (row_here c.args.self.now c.rows.place _ c.row-item.is c.rows-test.true)
     (passes t except _ _ c.args.name.now false true c.as_bytes-old.ensures c.if-is_left_out.ensures (sym c.components.invariant ∙ c.in-Met.ensures))
 
 pub returns-after-rows : goal.returns-after-rows

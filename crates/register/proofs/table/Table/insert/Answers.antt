@@ -20,8 +20,10 @@ invariant_of-self c =
     let t = c.args.self.now in
     let r = t.room in
     let w = length-set t.rows t.count c.args.row in
-    let size = length-between (set t.rows t.count c.args.row) c.args.place (t.count + 1) (omega arith) in (
-      length_put_mid c.args.place (t.count + 1 - c.args.place) (set t.rows t.count c.args.row) c.rotate_right.new.self (omega arith) (c.rotate_right.ensures.len ∙ size)
-          ∙ (w ∙ r),
-      (omega arith, tt),
-    )
+    let size = length-between (set t.rows t.count c.args.row) c.args.place (t.count + 1) (omega arith) in
+    record {
+      room =
+          length_put_mid c.args.place (t.count + 1 - c.args.place) (set t.rows t.count c.args.row) c.rotate_right.new.self (omega arith) (c.rotate_right.ensures.len ∙ size)
+          ∙ (w ∙ r);
+      counted = omega arith;
+    }

@@ -16,7 +16,7 @@ returns-then-eq c =
     let x = c.args.name.now in
     let t = same_from_decides _ _ (slice_eq-Decides Decides-eqb _ _ _ c.eq.ensures) (bytes_eq-Decides c.as_bytes.result.now x) in
     found_here (λ e. bytes_eq e.name x) (entries_of c.args.self.now) _ c.loop-place.invariant _
-    (row_here c.args.self.now c.loop-place.place _ c.loop-place-test.true)
+    (row_here c.args.self.now c.loop-place.place _ c.row-item.is c.loop-place-test.true)
     (ap (λ n. bytes_eq n x) (sym c.as_bytes.ensures) ∙ (sym t ∙ c.if-eq.true))
 
 pub loop-place-preserved : goal.loop-place-preserved
@@ -24,7 +24,7 @@ loop-place-preserved c =
     let x = c.args.name.now in
     let t = same_from_decides _ _ (slice_eq-Decides Decides-eqb _ _ _ c.eq.ensures) (bytes_eq-Decides c.as_bytes.result.now x) in
     not_here (λ e. bytes_eq e.name x) (entries_of c.args.self.now) _ c.loop-place.invariant _
-    (row_here c.args.self.now c.loop-place.place _ c.loop-place-test.true)
+    (row_here c.args.self.now c.loop-place.place _ c.row-item.is c.loop-place-test.true)
     (ap (λ n. bytes_eq n x) (sym c.as_bytes.ensures) ∙ (sym t ∙ c.if-eq.false))
 
 pub returns : goal.returns

@@ -20,7 +20,9 @@ invariant_of-self c =
     let t = c.args.self.now in
     let r = t.room in
     let n = t.counted in
-    let size = length-between t.rows c.args.place t.count (omega arith) in (
-      length_put_mid c.args.place (t.count - c.args.place) t.rows c.rotate_left.new.self (omega arith) (c.rotate_left.ensures.len ∙ size) ∙ r,
-      (omega arith, tt),
-    )
+    let size = length-between t.rows c.args.place t.count (omega arith) in
+    record {
+      room =
+          length_put_mid c.args.place (t.count - c.args.place) t.rows c.rotate_left.new.self (omega arith) (c.rotate_left.ensures.len ∙ size) ∙ r;
+      counted = omega arith;
+    }

@@ -10,7 +10,7 @@ unfolding slot
 returns-then-not-comes_before c =
     let x = c.args.name.now in
     let i = c.loop-place.place in
-    let e = row_here c.args.self.now i _ c.loop-place-test.true in
+    let e = row_here c.args.self.now i _ c.row-item.is c.loop-place-test.true in
     let none = ap (slot x) e ∙ cond-false _ _ _ (sym (c.if-not-comes_before.ensures ∙ ap (λ n. before n x) c.as_bytes.ensures)) in
     omega (arith, none, c.loop-place.invariant)
 
@@ -19,7 +19,7 @@ unfolding slot
 loop-place-preserved c =
     let x = c.args.name.now in
     let i = c.loop-place.place in
-    let e = row_here c.args.self.now i _ c.loop-place-test.true in
+    let e = row_here c.args.self.now i _ c.row-item.is c.loop-place-test.true in
     let more = ap (slot x) e ∙ cond-true _ _ _ (sym (c.if-not-comes_before.ensures ∙ ap (λ n. before n x) c.as_bytes.ensures)) in
     omega (arith, more, c.loop-place.invariant)
 
