@@ -1,5 +1,5 @@
 -- What a row and a table hold, as entries.
-use Rattle.std.specs.Prelude.{ℕ, zero, suc, ◌+◌, List, [], ◌∷◌, ◌++◌, map, take, drop, Option}
+use Rattle.std.specs.Prelude.{◌≡◌, ℕ, zero, suc, ◌+◌, List, [], ◌∷◌, ◌++◌, map, take, drop, slice_index_or, slice_set, Option}
 use Rattle.protections.specs.declared.rules.Mode.{Mode}
 use Rattle.claims.specs.Calls.{Kept}
 use Rattle.claims.specs.Entries.{Entry}
@@ -32,3 +32,8 @@ number_in (suc p) (e ∷ es) = number_in p es
 -- The entry at a place with another name and mode.
 abbrev pub renamed : Kept → ℕ → List ℕ → Option Mode → Entry (Option Mode)
 renamed es p x mode = record { name = x; number = number_in p es; mode = mode }
+
+-- The rows after one of them, at a place, is given another name and mode; its number stays.
+abbrev pub Relabelled : List Row → ℕ → Name → Option Mode → List Row → Type 0
+Relabelled rows p name mode after =
+    (d : Row) → after ≡ slice_set rows p (record { name = name; number = (slice_index_or rows p d).number; mode = mode })

@@ -43,14 +43,6 @@ impl Row {
         Row { name, number, mode }
     }
 
-    /// Gives the row another name and mode; its number stays.
-    pub(super) fn relabel(&mut self, name: Name, mode: Option<Mode>)
-        ensures { (self.new.name ≡ name) × (self.new.number ≡ self.old.number) × (self.new.mode ≡ mode) }
-    {
-        self.name = name;
-        self.mode = mode;
-    }
-
     /// The entry that the row holds.
     pub(crate) fn entry(&self) -> Entry<'_>
         ensures { shown result ≡ entry_of self.now }

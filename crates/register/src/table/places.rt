@@ -3,10 +3,20 @@ ghost use Rattle.std.specs.Prelude.{◌≡◌, ◌+◌, ◌<◌, ◌≤◌, [], 
 ghost use Rattle.std.specs.Option.{option_map};
 ghost use Rattle.std.specs.List.{slice_get};
 ghost use Rattle.claims.specs.Entries.{put, slot};
-ghost use Rattle.register.specs.Rows.{entries_of, entry_of, renamed, without};
+ghost use Rattle.register.specs.Rows.{Relabelled, entries_of, entry_of, renamed, without};
 
 use super::{Name, Row, Table};
 use protections::Mode;
+
+/// Lends the row at a place and gives it another name and mode; its number stays.
+fn relabel_row(rows: &mut [Row], place: usize, name: Name, mode: Option<Mode>)
+    requires { place < length rows.old }
+    ensures { Relabelled rows.old place name mode rows.new }
+{
+    let row = &mut rows[place];
+    row.name = name;
+    row.mode = mode;
+}
 
 impl Table {
     /// No rows.
@@ -63,14 +73,14 @@ impl Table {
         }
     }
 
-    /// Lends the row at a place and gives it another name and mode; its number stays.
+    /// Gives the row at a place another name and mode; its number stays.
     fn relabel(&mut self, place: usize, name: &[u8], mode: Option<Mode>)
         requires { (place < self.old.count) × (length name.now ≤ 255) }
         ensures entries { entries_of self.new ≡ slice_set (entries_of self.old) place (renamed (entries_of self.old) place name.now mode) }
         ensures count { self.new.count ≡ self.old.count }
     {
         let fresh = Name::new(name);
-        self.rows[place].relabel(fresh, mode);
+        relabel_row(&mut self.rows, place, fresh, mode);
     }
 
     /// Gives the row at a place another name and mode, and moves it to the place of that name, which is the answer.

@@ -19,8 +19,7 @@ relabelled t u p d fresh x mode h n r e =
     (ap (λ z. record { name = z; number = (get_or t.rows p d).number; mode = mode }) e
     ∙ ap (λ z. record { name = x; number = z; mode = mode }) (sym (number_at_row t p d h))))
 
-pub returns : goal.returns
-returns c = record {
-  entries = relabelled _ _ _ _ _ _ _ c.requires.0 refl refl c.new-fresh.ensures;
-  count = refl;
-}
+pub returns-clause-entries : goal.returns-clause-entries
+returns-clause-entries c =
+    let d : Row = record { name = c.new-fresh.result; number = 0; mode = c.args.mode } in
+    relabelled _ _ _ d _ _ _ c.requires.0 refl (c.relabel_row.ensures d) c.new-fresh.ensures
