@@ -10,8 +10,8 @@ use Rattle.batches.proofs.enter_name.Goals as goal
 pub returns : goal.returns
 unfolding entering name_fault
 returns c = record {
-  answer = c.answer-byte.ensures ∙ ap byte_of c.enter.ensures.answer;
+  answer = c.answer_byte.ensures ∙ ap byte_of c.enter.ensures.answer;
   entries =
       c.enter.ensures.entries
-      ∙ ap (λ n. entries_after campus (entries_in c.args.register.now) (enter c.args.name.now n None)) c.name-number.ensures;
+      ∙ ap (λ n. entries_after campus (entries_in c.args.register.now) (enter c.args.name.now n None)) c.name_number.ensures;
 }

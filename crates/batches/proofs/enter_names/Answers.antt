@@ -3,14 +3,14 @@ use Rattle.batches.specs.Batch.{names_in}
 use Rattle.batches.proofs.Entering.{all_entered, none_yet, one_more, within}
 use Rattle.batches.proofs.enter_names.Goals as goal
 
-pub overflow-mul-start : goal.overflow-mul-start
-overflow-mul-start c = omega (arith, within c.args.length c.args.names.now c.loop-index.index (omega arith))
+pub overflow_mul-start : goal.overflow_mul-start
+overflow_mul-start c = omega (arith, within c.args.length c.args.names.now c.loop-index.index (omega arith))
 
-pub overflow-add-start : goal.overflow-add-start
-overflow-add-start c = omega (arith, within c.args.length c.args.names.now c.loop-index.index (omega arith))
+pub overflow_add-start : goal.overflow_add-start
+overflow_add-start c = omega (arith, within c.args.length c.args.names.now c.loop-index.index (omega arith))
 
-pub slice-bounds-enter-name-end : goal.slice-bounds-enter-name-end
-slice-bounds-enter-name-end c = omega (arith, within c.args.length c.args.names.now c.loop-index.index (omega arith))
+pub slice_bounds-enter_name-end : goal.slice_bounds-enter_name-end
+slice_bounds-enter_name-end c = omega (arith, within c.args.length c.args.names.now c.loop-index.index (omega arith))
 
 pub loop-index-init : goal.loop-index-init
 loop-index-init c = none_yet _ _ _ _
@@ -20,7 +20,7 @@ loop-index-preserved c =
     let i = c.loop-index.index in
     let long : i * c.args.length + c.args.length - i * c.args.length ≡ c.args.length = omega arith in
     let room : i < length c.loop-index.answers = omega arith in
-    one_more _ _ _ _ i _ _ room c.loop-index.invariant _ _ (rw long at c.enter-name.ensures.answer) (rw long at c.enter-name.ensures.entries)
+    one_more _ _ _ _ i _ _ room c.loop-index.invariant _ _ (rw long at c.enter_name.ensures.answer) (rw long at c.enter_name.ensures.entries)
 
 pub returns : goal.returns
 returns c =

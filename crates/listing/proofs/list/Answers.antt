@@ -17,22 +17,22 @@ returns g c =
     let es = entries_in c.args.register.now in
     let p = c.perform.ensures in
     let A = c.perform.new.answers in
-    let cs = c.as-slice.result.now in
-    let read = ap (map call_of) c.as-slice.ensures.value ∙ c.in-ok-calls.ensures in
-    let room : length c.as-mut-slice.result.now ≡ length c.as-slice.result.now =
-    omega (arith, c.as-mut-slice.ensures.len, c.in-ok-results.ensures.len, c.len.ensures, c.as-slice.ensures.len) in
-    let size : length c.perform.new.answers ≡ vec_len c.in-ok-results.results = omega (arith, c.perform.auto.answers, c.as-mut-slice.ensures.len) in
-    let whole : c.as-slice-2.result.now ≡ A = c.as-slice-2.ensures.value ∙ take_at A _ _ size in
+    let cs = c.as_slice.result.now in
+    let read = ap (map call_of) c.as_slice.ensures.value ∙ c.in_ok-calls.ensures in
+    let room : length c.as_mut_slice.result.now ≡ length c.as_slice.result.now =
+    omega (arith, c.as_mut_slice.ensures.len, c.in_ok-results.ensures.len, c.len.ensures, c.as_slice.ensures.len) in
+    let size : length c.perform.new.answers ≡ vec_len c.in_ok-results.results = omega (arith, c.perform.auto.answers, c.as_mut_slice.ensures.len) in
+    let whole : c.as_slice-2.result.now ≡ A = c.as_slice-2.ensures.value ∙ take_at A _ _ size in
     let answered = ap (map outcome_of) whole ∙ all_answered call_of outcome_of m es cs A _ _ _ _ p.count room c.perform.auto.answers p.answered p.entries read in
     let left = all_left call_of outcome_of m es cs A _ _ _ _ p.count room c.perform.auto.answers p.answered p.entries read in
     record {
-      report = IfOk-weaker c.write-report.result _ _
+      report = IfOk-weaker c.write_report.result _ _
           (λ v e. e ∙ (ap (λ os. report_for (lines c.args.input.now) os (entries_in c.perform.new.register)) answered ∙ ap (report_for (lines c.args.input.now) _) left))
-          c.write-report.ensures;
-      claim = IfOk-weaker c.write-report.result _ _
+          c.write_report.ensures;
+      claim = IfOk-weaker c.write_report.result _ _
           (λ v e h. all_claimed call_of outcome_of m es cs A _ _ _ _ p.count room c.perform.auto.answers p.answered p.entries read (p.claim h))
-          c.write-report.ensures;
-      offers = IfOk-weaker c.write-report.result _ _
+          c.write_report.ensures;
+      offers = IfOk-weaker c.write_report.result _ _
           (λ v e. all_offered call_of outcome_of m es cs A _ _ _ _ p.count room c.perform.auto.answers p.answered p.entries read p.offers)
-          c.write-report.ensures;
+          c.write_report.ensures;
     }

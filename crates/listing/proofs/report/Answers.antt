@@ -8,14 +8,14 @@ use Rattle.runs.specs.Campus.{campus}
 use Rattle.listing.specs.Report.{calls_in, report_for, report_of}
 use Rattle.listing.proofs.report.Goals as goal
 
-pub returns-then-input-gt-LONGEST-INPUT : goal.returns-then-input-gt-LONGEST-INPUT
+pub returns-then-input-gt-LONGEST_INPUT : goal.returns-then-input-gt-LONGEST_INPUT
 unfolding report_of
-returns-then-input-gt-LONGEST-INPUT c =
-    let long = c.if-input-gt-LONGEST-INPUT.true in
+returns-then-input-gt-LONGEST_INPUT c =
+    let long = c.if-input-gt-LONGEST_INPUT.true in
     record {
-      report = IfOk-weaker c.too-long.result _ _ (λ v e. e ∙ sym (cond-false _ _ _ (lt-leb (length c.args.input.now) 16384 long))) c.too-long.ensures;
-      claim = IfOk-weaker c.too-long.result _ _ (λ v e l. let z : ⊥ = omega arith in absurd z) c.too-long.ensures;
-      offers = IfOk-weaker c.too-long.result _ _ (λ v e l. let z : ⊥ = omega arith in absurd z) c.too-long.ensures;
+      report = IfOk-weaker c.too_long.result _ _ (λ v e. e ∙ sym (cond-false _ _ _ (lt-leb (length c.args.input.now) 16384 long))) c.too_long.ensures;
+      claim = IfOk-weaker c.too_long.result _ _ (λ v e l. let z : ⊥ = omega arith in absurd z) c.too_long.ensures;
+      offers = IfOk-weaker c.too_long.result _ _ (λ v e l. let z : ⊥ = omega arith in absurd z) c.too_long.ensures;
     }
 
 pub returns : goal.returns
@@ -24,7 +24,7 @@ returns c =
     let ls = lines c.args.input.now in
     let cs = calls_in (lines c.args.input.now) in
     let none = c.new-register.ensures.entries in
-    let short = le-leb (length c.args.input.now) 16384 c.if-input-gt-LONGEST-INPUT.false in
+    let short = le-leb (length c.args.input.now) 16384 c.if-input-gt-LONGEST_INPUT.false in
     record {
       report = IfOk-weaker c.list.result _ _
           (λ v e. e ∙ (ap (λ z. report_for ls (answers campus z cs) (entries_left campus z cs)) none ∙ sym (cond-true _ _ _ short)))

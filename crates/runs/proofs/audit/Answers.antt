@@ -25,7 +25,7 @@ pub returns : goal.returns
 returns g c =
     let m = mending_meaning_in g.R.Rulebook g.R.MendingRulebook.mended g.F.FileSystem c.args.register.now in
     record {
-      count = c.audit-changes.ensures.count;
+      count = c.audit_changes.ensures.count;
       claim = λ ds r. claim m (lawful g c.args.register.now.files) _ ds _ r refl;
       offers = λ ds r. offers m (mending g c.args.register.now.files) _ ds _ r;
     }

@@ -12,7 +12,7 @@ returns-in-Change g c =
     let es = entries_in c.args.register.now in
     rw c.in-Change.is
     (record {
-      answer = c.make-change.ensures.answer ∙ same_answer m g.R.MendingRulebook.mended es c.in-Change.change;
-      entries = c.make-change.ensures.entries ∙ same_entries m g.R.MendingRulebook.mended es c.in-Change.change;
-      same-rules = c.make-change.ensures.same-rules;
+      answer = c.make_change.ensures.answer ∙ same_answer m g.R.MendingRulebook.mended es c.in-Change.change;
+      entries = c.make_change.ensures.entries ∙ same_entries m g.R.MendingRulebook.mended es c.in-Change.change;
+      same_rules = c.make_change.ensures.same_rules;
     })

@@ -46,7 +46,7 @@ returns-then-i-answers g c =
       claim = claim m (lawful g c.args.register.now.files) _ _ _ ran;
       offers = offers m (mending g c.args.register.now.files) _ _ _ ran;
       rest = c.loop-i.invariant.2;
-      same-rules = c.loop-i.invariant.3;
+      same_rules = c.loop-i.invariant.3;
     }
 
 pub loop-i-preserved : goal.loop-i-preserved
@@ -57,10 +57,10 @@ loop-i-preserved g c =
     let k : c.loop-i.i < length c.loop-i.answers = omega arith in
     let f = c.loop-i.invariant.3.1 in (
       one_more call_of outcome_of m (entries_in c.args.register.now) c.args.calls.now c.loop-i.answers c.loop-i.i _ es h k c.loop-i.invariant.0 _
-          (ap (mending_meaning g.R.Rulebook g.R.MendingRulebook.mended g.F.FileSystem) f) _ _ c.make-call.ensures.answer c.make-call.ensures.entries,
+          (ap (mending_meaning g.R.Rulebook g.R.MendingRulebook.mended g.F.FileSystem) f) _ _ c.make_call.ensures.answer c.make_call.ensures.entries,
       simp length-set (omega arith),
       rest_stays c.loop-i.answers c.args.answers.now c.loop-i.i _ c.loop-i.invariant.2,
-      (c.make-call.ensures.same-rules.0 ∙ c.loop-i.invariant.3.0, c.make-call.ensures.same-rules.1 ∙ f),
+      (c.make_call.ensures.same_rules.0 ∙ c.loop-i.invariant.3.0, c.make_call.ensures.same_rules.1 ∙ f),
     )
 
 pub returns : goal.returns
@@ -77,5 +77,5 @@ returns g c =
       claim = claim m (lawful g c.args.register.now.files) _ _ _ ran;
       offers = offers m (mending g c.args.register.now.files) _ _ _ ran;
       rest = c.loop-i.invariant.2;
-      same-rules = c.loop-i.invariant.3;
+      same_rules = c.loop-i.invariant.3;
     })

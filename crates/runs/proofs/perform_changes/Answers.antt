@@ -38,7 +38,7 @@ returns-then-i-answers g c =
       ran = ran;
       claim = claim m (lawful g c.args.register.now.files) _ _ _ ran;
       rest = c.loop-i.invariant.2;
-      same-rules = c.loop-i.invariant.3;
+      same_rules = c.loop-i.invariant.3;
     }
 
 pub loop-i-preserved : goal.loop-i-preserved
@@ -49,10 +49,10 @@ loop-i-preserved g c =
     let k : c.loop-i.i < length c.loop-i.answers = omega arith in
     let f = c.loop-i.invariant.3.1 in (
       one_more change_of outcome_of m (entries_in c.args.register.now) c.args.changes.now c.loop-i.answers c.loop-i.i _ es h k c.loop-i.invariant.0 _
-          (ap (meaning_of g.R.Rulebook g.F.FileSystem) f) _ _ c.make-change.ensures.answer c.make-change.ensures.entries,
+          (ap (meaning_of g.R.Rulebook g.F.FileSystem) f) _ _ c.make_change.ensures.answer c.make_change.ensures.entries,
       simp length-set (omega arith),
       rest_stays c.loop-i.answers c.args.answers.now c.loop-i.i _ c.loop-i.invariant.2,
-      (c.make-change.ensures.same-rules.0 ∙ c.loop-i.invariant.3.0, c.make-change.ensures.same-rules.1 ∙ f),
+      (c.make_change.ensures.same_rules.0 ∙ c.loop-i.invariant.3.0, c.make_change.ensures.same_rules.1 ∙ f),
     )
 
 pub returns : goal.returns
@@ -68,5 +68,5 @@ returns g c =
       ran = ran;
       claim = claim m (lawful g c.args.register.now.files) _ _ _ ran;
       rest = c.loop-i.invariant.2;
-      same-rules = c.loop-i.invariant.3;
+      same_rules = c.loop-i.invariant.3;
     })

@@ -2,12 +2,12 @@ use Rattle.std.proofs.Common.{◌≡◌, ◌<◌, ◌≤◌, length, Some, sym, 
 use Rattle.listing.proofs.Numbers.{all_read, bad_read, below_more, below_power, digits_all, digits_end, digits_more, many_read, none_read, value_all, value_more}
 use Rattle.listing.proofs.lines_read.read_number.Goals as goal
 
-pub overflow-mul-number : goal.overflow-mul-number
-overflow-mul-number c =
+pub overflow_mul-number : goal.overflow_mul-number
+overflow_mul-number c =
     let b = below_power c.loop-byte.number c.loop-byte.byte-index c.loop-byte.invariant.2 (omega arith) in omega arith
 
-pub overflow-add-number : goal.overflow-add-number
-overflow-add-number c =
+pub overflow_add-number : goal.overflow_add-number
+overflow_add-number c =
     let b = below_power c.loop-byte.number c.loop-byte.byte-index c.loop-byte.invariant.2 (omega arith) in
     omega (arith, c.in-Some.ensures.2)
 

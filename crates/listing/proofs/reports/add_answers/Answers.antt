@@ -9,11 +9,11 @@ use Rattle.listing.proofs.reports.add_answers.Goals as goal
 pub loop-line-preserved : goal.loop-line-preserved
 unfolding answer_lines
 loop-line-preserved c =
-    let added = c.in-ok-left.ensures in
+    let added = c.in_ok-left.ensures in
     let v = vec_items c.loop-line.report in
     let first = first_line (read_line c.in-Some.line.now) (map outcome_of c.loop-line.left.now) in
     let more = lines c.in-Some.next.now in
-    ap (λ t. t ++ answer_lines more (map outcome_of c.in-ok-left.left.now)) added.adds
+    ap (λ t. t ++ answer_lines more (map outcome_of c.in_ok-left.left.now)) added.adds
     ∙ (append_assoc v _ _
     ∙ (ap (λ os. v ++ (first ++ answer_lines more os)) added.leaves
     ∙ (ap (λ ls. v ++ answer_lines ls (map outcome_of c.loop-line.left.now)) (sym c.in-Some.ensures.splits) ∙ c.loop-line.invariant)))
@@ -23,4 +23,4 @@ unfolding answer_lines lines
 returns c =
     let v = vec_items c.loop-line.report in
     sym (append-nil v)
-    ∙ (ap (λ s. v ++ answer_lines (lines s) (map outcome_of c.loop-line.left.now)) (sym c.in-default.ensures.splits) ∙ c.loop-line.invariant)
+    ∙ (ap (λ s. v ++ answer_lines (lines s) (map outcome_of c.loop-line.left.now)) (sym c.in_default.ensures.splits) ∙ c.loop-line.invariant)

@@ -4,4 +4,4 @@ use Rattle.listing.proofs.reports.count_lines.Goals as goal
 
 pub returns : goal.returns
 unfolding lines
-returns c = omega (arith, c.loop-next.invariant.0, ap (λ s. length (lines s)) c.in-default.ensures.splits)
+returns c = omega (arith, c.loop-next.invariant.0, ap (λ s. length (lines s)) c.in_default.ensures.splits)

@@ -5,10 +5,10 @@ use Rattle.listing.proofs.reports.write_report.Goals as goal
 
 pub returns : goal.returns
 returns g c =
-    let head = c.as-bytes.ensures.value ∙ (c.in-ok-answer-count.ensures ∙ ap (count_line (codes "answers")) c.count-lines.ensures) in
-    let names = c.as-bytes-2.ensures.value ∙ (c.in-ok-name-count.ensures ∙ ap (count_line (codes "names")) c.audit.ensures.count) in
+    let head = c.as_bytes.ensures.value ∙ (c.in_ok-answer_count.ensures ∙ ap (count_line (codes "answers")) c.count_lines.ensures) in
+    let names = c.as_bytes-2.ensures.value ∙ (c.in_ok-name_count.ensures ∙ ap (count_line (codes "names")) c.audit.ensures.count) in
     four_parts _ _ _ _ _ _ _ _ _ c.new-report.ensures.items
-    (c.in-ok-extend-from-slice.ensures.items ∙ ap (λ t. vec_items c.new-report.result ++ t) head)
-    c.in-ok-add-answers.ensures
-    (c.in-ok-extend-from-slice-2.ensures.items ∙ ap (λ t. vec_items c.add-answers.new.report ++ t) names)
-    c.in-ok-add-entries.ensures
+    (c.in_ok-extend_from_slice.ensures.items ∙ ap (λ t. vec_items c.new-report.result ++ t) head)
+    c.in_ok-add_answers.ensures
+    (c.in_ok-extend_from_slice-2.ensures.items ∙ ap (λ t. vec_items c.add_answers.new.report ++ t) names)
+    c.in_ok-add_entries.ensures
