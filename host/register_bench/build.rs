@@ -1,4 +1,4 @@
-//! Links the static library of the register, from `GUSHTERAL_LIB_DIR` or the folder into which `rt staticlib` puts it.
+//! Links the static library of the register, from `GUSHTERAL_LIB_DIR` or the folder into which `rt lib` puts it.
 use std::{env, path::PathBuf};
 
 fn main() {
@@ -6,13 +6,13 @@ fn main() {
     let here = PathBuf::from(env::var_os("CARGO_MANIFEST_DIR").expect("cargo sets CARGO_MANIFEST_DIR"));
     let folder = match env::var_os("GUSHTERAL_LIB_DIR") {
         Some(folder) => PathBuf::from(folder),
-        None => here.join("../../target/staticlib"),
+        None => here.join("../../crates/batches/out"),
     };
     let library = folder.join("libbatches.a");
     println!("cargo::rerun-if-changed={}", library.display());
     if !library.is_file() {
         println!(
-            "cargo::error={} is not there: run `rt staticlib batches`, or set GUSHTERAL_LIB_DIR to its absolute folder",
+            "cargo::error={} is not there: run `rt lib batches`, or set GUSHTERAL_LIB_DIR to its absolute folder",
             library.display()
         );
         return;
