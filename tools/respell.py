@@ -47,6 +47,7 @@ def snake(part):
 def respelled(name):
     parts = name.split("-")
     if name[0].isupper():
+        parts = re.split("[-_]", name)
         return "".join(p[:1].upper() + p[1:] for p in parts)
     if "-" not in name:
         return name

@@ -12,7 +12,7 @@ fn main() {
     println!("cargo::rerun-if-changed={}", library.display());
     if !library.is_file() {
         println!(
-            "cargo::error={} is not there: run `rt lib exports`, or set GUSHTERAL_LIB_DIR to its absolute folder",
+            "cargo::error={} is not there: run `rt lib` in crates/exports, or set GUSHTERAL_LIB_DIR to its absolute folder",
             library.display()
         );
         return;

@@ -1,4 +1,6 @@
 //! Many names entered at once, for C and Rust: partial names on HFS+ over NTFS over the plain bottom.
+#![tactic(auto)]
+
 ghost use Rattle.std.specs.Prelude.{◌≡◌, [], None as no_mode};
 ghost use Rattle.claims.specs.Calls.{entering, entries_after};
 ghost use Rattle.claims.specs.Calls.Call.{enter as an_enter};

@@ -1,8 +1,7 @@
 -- The search for the first kept name that meets another finds what it says.
-use Rattle.std.proofs.Common.{◌≡◌, ℕ, suc, Bool, true, false, List, [], ◌∷◌, ◌++◌, length, Some, None, Option, sym, refl, ap, ◌∙◌, subst, inl, inr, ⊎_elim}
+use Rattle.std.proofs.Common.{◌≡◌, ℕ, suc, Bool, false, List, [], ◌∷◌, Some, None, Option, refl, ap, subst, ⊎_elim}
 use Rattle.std.specs.Option.{option_map}
 use Rattle.std.proofs.lemmas.Bool.{both_ways, cases_Bool}
-use Rattle.tag.specs.Components.{Among}
 use Rattle.protections.specs.declared.rules.Mode.{Mode}
 use Rattle.meetings.specs.Meeting.{Meets, meet}
 use Rattle.meetings.proofs.Meetings.{meet_decides}

@@ -1,6 +1,6 @@
 -- Entering a name that the rulebook allows is never refused by the rulebook, and it is refused exactly where a kept name meets
 -- it or 128 are kept.
-use Rattle.std.proofs.Common.{◌≡◌, ℕ, ◌+◌, ◌≤◌, Bool, true, false, cond, not, leb, ◌⊎◌, List, [], ◌∷◌, length, Some, None, Decides, Option, sym, refl, subst, inl, inr, ⊎_elim}
+use Rattle.std.proofs.Common.{◌≡◌, ℕ, ◌+◌, ◌≤◌, Bool, true, false, cond, not, leb, List, [], ◌∷◌, length, Some, None, Decides, Option, sym, refl, subst, inl, inr, ⊎_elim}
 use Rattle.std.proofs.lemmas.Bool.{both_ways, cond_both, false≢true, le-leb, leb-true}
 use Rattle.tag.proofs.Members.{each_from_all}
 use Rattle.tag.specs.Components.{components}

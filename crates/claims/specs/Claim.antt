@@ -7,7 +7,7 @@ use Rattle.protections.specs.declared.rules.Mode.{Mode}
 use Rattle.filesystems.specs.Words.{Key, Among as Listed}
 use Rattle.meetings.specs.Meeting.{Meets, Starts, keys_under}
 use Rattle.claims.specs.Entries.{Ascends, Entry, strike}
-use Rattle.claims.specs.Calls.{Call, Fault, Kept, Meaning, Outcome, answer, entries_after, number_at}
+use Rattle.claims.specs.Calls.{Call, Kept, Meaning, Outcome, answer, entries_after, number_at}
 use Rattle.claims.specs.Calls.Call.{enter, offer, remove, rename}
 use Rattle.claims.specs.Calls.Fault.{by_rulebook}
 use Rattle.claims.specs.Calls.Outcome.{accepted, declined}

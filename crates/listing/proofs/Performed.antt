@@ -1,5 +1,5 @@
 -- Calls that were all made: as many answers as calls.
-use Rattle.std.proofs.Common.{◌≡◌, ℕ, ◌≤◌, min, List, map, length, take, sym, ap, ◌∙◌, arith}
+use Rattle.std.proofs.Common.{◌≡◌, ℕ, min, List, map, length, take, sym, ap, ◌∙◌, arith}
 use Rattle.std.proofs.lemmas.List.{take_all}
 use Rattle.claims.specs.Calls.{Call, Kept, Meaning, Outcome}
 use Rattle.claims.specs.Claim.{Claim, OffersClaim}

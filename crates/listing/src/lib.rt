@@ -1,4 +1,5 @@
 //! The listing of a register: which call each line of an input is, and the report of the answers and the kept names.
+#![tactic(auto)]
 
 ghost use Rattle.std.specs.Prelude.{◌≡◌, ◌≤◌, [], map, length, IfOk, OnOk};
 ghost use Rattle.lines.specs.Lines.{lines as lines_of};

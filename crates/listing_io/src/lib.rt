@@ -1,4 +1,6 @@
 //! The listing on standard input and standard output.
+#![tactic(auto)]
+
 use listing::LONGEST_INPUT;
 use std::io::{Read, Write};
 

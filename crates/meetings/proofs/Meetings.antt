@@ -1,12 +1,12 @@
 -- The test of meeting decides what meeting means, meeting is symmetric, and names that do not meet are apart under every key.
-use Rattle.std.proofs.Common.{◌≡◌, ℕ, Bool, true, false, cond, eqb, ◌⊎◌, List, [], ◌∷◌, ◌++◌, map, Decides, sym, refl, ap, ◌∙◌, subst, inl, inr, ⊎_elim, arith}
+use Rattle.std.proofs.Common.{◌≡◌, ℕ, Bool, true, false, ◌⊎◌, List, [], ◌∷◌, ◌++◌, map, Decides, sym, refl, ap, ◌∙◌, subst, inl, inr, ⊎_elim, arith}
 use Rattle.std.specs.Str.{bytes_eq}
 use Rattle.std.proofs.lemmas.Slice.Eq.{bytes_eq-Decides}
 use Rattle.std.proofs.lemmas.List.{append-nil, append_assoc}
-use Rattle.std.proofs.lemmas.Bool.{both_ways, cases_Bool, cases_eq, cond-false, cond-true, eq-eqb, false≢true, ne_eqb}
-use Rattle.tag.specs.Components.{Among, components, joined, onto}
+use Rattle.std.proofs.lemmas.Bool.{both_ways, cases_Bool, cases_eq, cond-false, cond-true, eq-eqb, ne_eqb}
+use Rattle.tag.specs.Components.{components, joined, onto}
 use Rattle.tag.proofs.Parts.{joined_components, split}
-use Rattle.meetings.specs.Meeting.{FirstDiffer, Goes_on, Meets, Starts, keys_under, meet, meet_parts}
+use Rattle.meetings.specs.Meeting.{GoesOn, Meets, Starts, keys_under, meet, meet_parts}
 
 -- A name has at least one component.
 pub some_component : (s : List ℕ) → components s ≡ [] → ⊥
@@ -37,11 +37,11 @@ joined_append (c ∷ (e ∷ cs)) ds n m =
     ∙ sym (append_assoc c (47 ∷ joined (e ∷ cs)) (47 ∷ joined ds))
 
 -- The components of x begin those of y exactly where y is x or goes on after it.
-starts_from : (x y : List ℕ) → (x ≡ y) ⊎ Goes_on x y → Starts (components x) (components y)
+starts_from : (x y : List ℕ) → (x ≡ y) ⊎ GoesOn x y → Starts (components x) (components y)
 starts_from x y (inl e) = ([], ap components (sym e) ∙ sym (append-nil (components x)))
 starts_from x y (inr g) = (components g.0, ap components g.1 ∙ components_append x g.0)
 
-starts_to : (x y : List ℕ) (rest : List (List ℕ)) → components y ≡ components x ++ rest → (x ≡ y) ⊎ Goes_on x y
+starts_to : (x y : List ℕ) (rest : List (List ℕ)) → components y ≡ components x ++ rest → (x ≡ y) ⊎ GoesOn x y
 starts_to x y [] e =
     inl (sym (joined_components x) ∙ (ap joined (sym (e ∙ append-nil (components x))) ∙ joined_components y))
 starts_to x y (d ∷ ds) e =

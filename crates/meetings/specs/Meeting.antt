@@ -4,8 +4,8 @@ use Rattle.std.specs.Str.{bytes_eq}
 use Rattle.tag.specs.Components.{components}
 
 -- The name y goes on after x with a slash.
-abbrev pub Goes_on : List ℕ → List ℕ → Type 0
-Goes_on x y = (rest : List ℕ) × (y ≡ x ++ 47 ∷ rest)
+abbrev pub GoesOn : List ℕ → List ℕ → Type 0
+GoesOn x y = (rest : List ℕ) × (y ≡ x ++ 47 ∷ rest)
 
 -- a and b are the first components in which x and y differ: the components before them are the same.
 pub record FirstDiffer (x y a b : List ℕ) : Type 0 where
@@ -20,7 +20,7 @@ pub record FirstDiffer (x y a b : List ℕ) : Type 0 where
 -- they differ lie together.
 abbrev pub Meets : (List ℕ → List ℕ → Bool) → List ℕ → List ℕ → Type 0
 Meets together x y =
-    (x ≡ y) ⊎ (Goes_on x y ⊎ (Goes_on y x ⊎ ((a : List ℕ) × (b : List ℕ) × FirstDiffer x y a b × (together a b ≡ true))))
+    (x ≡ y) ⊎ (GoesOn x y ⊎ (GoesOn y x ⊎ ((a : List ℕ) × (b : List ℕ) × FirstDiffer x y a b × (together a b ≡ true))))
 
 -- The same as a test, on lists of components.
 unfoldable pub meet_parts : (List ℕ → List ℕ → Bool) → List (List ℕ) → List (List ℕ) → Bool

@@ -1,4 +1,6 @@
 //! When two names meet on a file system.
+#![tactic(auto)]
+
 ghost use Rattle.std.specs.Prelude.{◌≡◌, Decides};
 ghost use Rattle.meetings.specs.Meeting.{Meets, meet};
 ghost use Rattle.meetings.specs.Walks.{Walked};

@@ -49,6 +49,21 @@ module _ (name : List ℕ) (kept : ℕ) where
       let none = drop_all kept name (omega arith) in
       sym (split ∙ and_right (equals (lowered (take kept name)) (take kept short)) (numbered_by (6 - kept) (drop kept name)) (rw none))
 
+  pub other_front : false ≡ equals (lowered (take (kept - 0) name)) (take (kept - 0) short) → false ≡ short_at (lowered name) kept
+  other_front e =
+      let z : kept - 0 ≡ kept = omega arith in
+      let f : false ≡ equals (lowered (take kept name)) (take kept short) = rw z at e in
+      sym (split ∙ rw (← f))
+
+  pub same_front : true ≡ equals (lowered (take (kept - 0) name)) (take (kept - 0) short) → (r : Bool) →
+      r ≡ numbered_by (6 - kept) (take (length name - kept) (drop kept name)) → r ≡ short_at (lowered name) kept
+  same_front e r n =
+      let z : kept - 0 ≡ kept = omega arith in
+      let f : true ≡ equals (lowered (take kept name)) (take kept short) = rw z at e in
+      let rest = take_rest name kept in
+      let m : r ≡ numbered_by (6 - kept) (drop kept name) = rw rest at n in
+      m ∙ sym (split ∙ rw (← f))
+
   pub other_back : false ≡ numbered_by (6 - kept) (take (length name - kept) (drop kept name)) → false ≡ short_at (lowered name) kept
   other_back e =
       let rest = take_rest name kept in

@@ -1,6 +1,6 @@
 //! The plain protection: bytes as they are, with A to Z made small for its verdict.
-ghost use Rattle.std.specs.Prelude.{◌≡◌};
-ghost use Rattle.protections.specs.Words.{equals};
+ghost use Rattle.std.specs.Prelude.{◌≡◌, map};
+ghost use Rattle.protections.specs.Words.{equals, listed};
 ghost use Rattle.protections.specs.Rules.{numbered, plain_rule};
 ghost use Rattle.protections.specs.Bound.{bytes_bounded};
 
@@ -34,6 +34,18 @@ pub fn named<P: Keyed>(keyed: &P, component: &[u8], name: &[u8]) -> bool
     ensures { result ≡ equals (P.Keyed.key keyed.now component.now) name.now }
 {
     same(Cursor::new(keyed, component), Cursor::new(&Plain, name))
+}
+
+// Whether the component's key is one of the names.
+pub(crate) fn named_among<P: Keyed>(keyed: &P, component: &[u8], names: &[&[u8]]) -> bool
+    ensures { result ≡ listed (map (λ x. x.now) names.now) (P.Keyed.key keyed.now component.now) }
+{
+    for name in names {
+        if named(keyed, component, name) {
+            return true;
+        }
+    }
+    false
 }
 
 impl Protection for Plain {

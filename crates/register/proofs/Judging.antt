@@ -1,5 +1,5 @@
 -- The verdicts on the components of a name, from the left.
-use Rattle.std.proofs.Common.{◌≡◌, ℕ, ◌+◌, ◌<◌, List, [], ◌∷◌, length, take, drop, Some, None, Option, sym, refl, ap, ◌∙◌, arith}
+use Rattle.std.proofs.Common.{◌≡◌, ℕ, ◌+◌, ◌<◌, List, length, take, drop, Some, None, Option, sym, refl, ap, ◌∙◌, arith}
 use Rattle.tag.specs.Components.{components}
 use Rattle.protections.specs.declared.rules.Mode.{Mode}
 use Rattle.mending.specs.Steps.{FirstEnds}

@@ -1,11 +1,10 @@
 -- What is wrong with a name by itself, check by check.
-use Rattle.std.proofs.Common.{◌≡◌, ℕ, ◌<◌, ◌≤◌, leb, List, length, Some, None, Option, sym, refl, ap, ◌∙◌, ⊎_elim, arith}
+use Rattle.std.proofs.Common.{◌≡◌, ℕ, ◌<◌, ◌≤◌, List, length, Some, None, Option, sym, ap, ◌∙◌, ⊎_elim, arith}
 use Rattle.std.proofs.lemmas.Bool.{cases_lt, cond-false, cond-true, le-leb, lt-leb}
 use Rattle.tag.specs.Components.{components}
 use Rattle.protections.specs.declared.rules.Mode.{Mode}
-use Rattle.rulebooks.specs.Rulings.{Ruling}
 use Rattle.rulebooks.specs.Rulings.Ruling.{allowed, refused}
-use Rattle.claims.specs.Calls.{Fault, Meaning, first_verdict, name_fault, ruling_fault}
+use Rattle.claims.specs.Calls.{Meaning, first_verdict, name_fault, ruling_fault}
 use Rattle.claims.specs.Calls.Fault.{by_rulebook, by_state}
 
 module _ (m : Meaning) (x : List ℕ) (mode : Option Mode) where

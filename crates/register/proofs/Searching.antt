@@ -5,7 +5,7 @@ use Rattle.std.proofs.lemmas.Bool.{cond-false, cond-true}
 use Rattle.claims.specs.Entries.{Entry, first_place}
 
 -- A place counted from i on, and from the next place on.
-counted_on : (i : ℕ) (o : Option ℕ) → option_map (λ k. i + k) (option_map suc o) ≡ option_map (λ k. i + 1 + k) o
+pub counted_on : (i : ℕ) (o : Option ℕ) → option_map (λ k. i + k) (option_map suc o) ≡ option_map (λ k. i + 1 + k) o
 counted_on i None = refl
 counted_on i (Some k) = let e : i + suc k ≡ i + 1 + k = omega arith in ap Some e
 

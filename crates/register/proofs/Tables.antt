@@ -1,5 +1,5 @@
 -- The entries of a table, by its rows.
-use Rattle.std.proofs.Common.{◌≡◌, ℕ, zero, suc, ◌+◌, ◌-◌, ◌<◌, ◌≤◌, List, [], ◌∷◌, ◌++◌, map, length, get_or, take, drop, set, Some, Option, sym, refl, ap, ◌∙◌, ⊎_elim, arith}
+use Rattle.std.proofs.Common.{◌≡◌, ℕ, zero, suc, ◌+◌, ◌-◌, ◌<◌, ◌≤◌, List, [], ◌∷◌, ◌++◌, map, length, get_or, take, drop, set, Some, Option, sym, ap, ◌∙◌, ⊎_elim, arith}
 use lib.ListN.{get_or-map}
 use Rattle.std.proofs.lemmas.List.{drop_all, drop-map, drop_more, drop-set-lt, get_or-set_same, get_or-take, length-append, length-drop, length-map, length-set, length-take-le, map-append, map-set, take-map, take-set}
 use lib.Seq.{take-set-lt}

@@ -5,7 +5,7 @@ use Rattle.rulebooks.specs.Rulings.Ruling.{allowed}
 use Rattle.protections.specs.declared.rules.Mode.{Mode}
 use Rattle.meetings.specs.Meeting.{Meets, Starts, keys_under}
 use Rattle.claims.specs.Entries.{Ascends, Entry, strike}
-use Rattle.register.specs.Calls.{Call, Fault, Kept, Meaning, Outcome, answer, entries_after, first_verdict, number_at}
+use Rattle.register.specs.Calls.{Call, Kept, Meaning, Outcome, answer, entries_after, first_verdict, number_at}
 use Rattle.register.specs.Calls.Call.{enter, offer, remove, rename}
 use Rattle.register.specs.Calls.Fault.{by_rulebook}
 use Rattle.register.specs.Calls.Outcome.{accepted, declined}

@@ -1,4 +1,6 @@
 //! The register of names: at most 128 entries, kept so that no two names fall on one file of any replica.
+#![tactic(auto)]
+
 use table::Table;
 
 mod calls;

@@ -1,6 +1,6 @@
 -- What a text is mended to does not matter to a call that is no offer.
-use Rattle.std.proofs.Common.{◌≡◌, ℕ, List, refl, ap}
-use Rattle.claims.specs.Calls.{Kept, Meaning, after_by, answer, changed, entering, entries_after, name_fault, renaming}
+use Rattle.std.proofs.Common.{◌≡◌, ℕ, List, refl}
+use Rattle.claims.specs.Calls.{Kept, Meaning, answer, changed, entering, entries_after, name_fault, renaming}
 use Rattle.runs.specs.Listed.{change_of}
 use Rattle.runs.specs.declared.Change.{Change}
 use Rattle.runs.specs.declared.Change.TheVariants.{Enter, Remove, Rename}

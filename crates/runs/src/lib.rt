@@ -1,4 +1,6 @@
 //! Lists of calls on a register, and what holds after any of them.
+#![tactic(auto)]
+
 ghost use Rattle.std.specs.Prelude.{◌≡◌, min, List, [], map, length, take, drop};
 ghost use Rattle.claims.specs.Calls.{answer as answer_laid_down, entries_after};
 ghost use Rattle.claims.specs.Claim.{Claim, Done, OffersClaim, Ran};

@@ -31,7 +31,7 @@ opening s =
     cond (length s == 0) (refused 11 nothing)
     (cond (last_byte s == 47) (refused 10 nothing) (cond (slice_index s 0 == 47) (refused 2 nothing) allowed))
 
--- The lines after the bytes: 5 at the last byte for a name that ends in .lock and is not exactly.lock, then 8 for a
+-- The lines after the bytes: 5 at the last byte for a name that ends in .lock and is not exactly .lock, then 8 for a
 -- first dot and 9 for a last dot.
 abbrev pub closing : List ℕ → Answer
 closing s =

@@ -1,7 +1,6 @@
 -- The test decides what meeting means.
-use Rattle.std.proofs.Common.{◌≡◌, ℕ, Bool, List, Decides, sym, ◌∙◌}
+use Rattle.std.proofs.Common.{sym, ◌∙◌}
 use Rattle.std.proofs.lemmas.Bool.Decides.{Decides-at}
-use Rattle.meetings.specs.Meeting.{Meets, meet}
 use Rattle.meetings.proofs.Meetings.{meet_decides}
 use Rattle.meetings.proofs.meets.Goals as goal
 

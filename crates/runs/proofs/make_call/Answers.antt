@@ -1,8 +1,6 @@
-use Rattle.std.proofs.Common.{◌≡◌, sym, ap, ◌∙◌}
-use Rattle.claims.specs.Calls.{answer, entries_after}
+use Rattle.std.proofs.Common.{◌∙◌}
 use Rattle.register.specs.Meanings.{meaning_in}
 use Rattle.register.specs.Registers.{entries_in}
-use Rattle.runs.specs.Listed.{call_of}
 use Rattle.runs.proofs.Alike.{same_answer, same_entries}
 use Rattle.runs.proofs.make_call.Goals as goal
 

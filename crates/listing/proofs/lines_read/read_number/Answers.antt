@@ -1,5 +1,5 @@
-use Rattle.std.proofs.Common.{◌≡◌, ◌<◌, ◌≤◌, length, Some, sym, ap, ◌∙◌, arith}
-use Rattle.listing.proofs.Numbers.{all_read, bad_read, below_more, below_power, digits_all, digits_end, digits_more, many_read, none_read, value_all, value_more}
+use Rattle.std.proofs.Common.{◌≤◌, length, Some, sym, ap, ◌∙◌, arith}
+use Rattle.listing.proofs.Numbers.{all_read, bad_read, below_more, below_power, digits_all, digits_end, digits_more, value_all, value_more}
 use Rattle.listing.proofs.lines_read.read_number.Goals as goal
 
 pub overflow_mul-number : goal.overflow_mul-number

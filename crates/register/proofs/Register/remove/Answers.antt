@@ -1,4 +1,4 @@
-use Rattle.std.proofs.Common.{◌≡◌, sym, refl, ap, ◌∙◌, arith}
+use Rattle.std.proofs.Common.{sym, refl, ◌∙◌, arith}
 use Rattle.claims.specs.Calls.Call.{remove}
 use Rattle.register.specs.Meanings.{meaning_of}
 use Rattle.register.specs.Rows.{entries_of}

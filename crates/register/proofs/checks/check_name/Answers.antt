@@ -1,4 +1,4 @@
-use Rattle.std.proofs.Common.{◌∙◌, arith}
+use Rattle.std.proofs.Common.{◌∙◌}
 use Rattle.std.proofs.lemmas.Result.{err_from_is_err_and}
 use Rattle.register.specs.Meanings.{meaning_of}
 use Rattle.register.proofs.Naming.{rules_refuse, too_long, verdicts_decide}

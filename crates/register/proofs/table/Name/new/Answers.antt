@@ -1,5 +1,5 @@
 -- The name stands at the front of the 255 bytes.
-use Rattle.std.proofs.Common.{length, sym, ap, ◌∙◌, rules}
+use Rattle.std.proofs.Common.{length, ap, ◌∙◌, rules}
 use Rattle.std.proofs.lemmas.List.{places, take_at}
 use Rattle.register.proofs.table.Name.new.Goals as goal
 

@@ -4,7 +4,7 @@ use Rattle.std.specs.Option.{option_map}
 use Rattle.meetings.specs.Meeting.{meet}
 use Rattle.claims.specs.Calls.{first_meeting, left_out}
 use Rattle.register.specs.Rows.{entries_of}
-use Rattle.register.proofs.Searching.{found_here, found_nowhere, from_start, not_here}
+use Rattle.register.proofs.Searching.{found_here, found_nowhere, not_here}
 use Rattle.register.proofs.Tables.{row_here, row_none}
 use Rattle.register.proofs.table.Table.first_meeting.Goals as goal
 

@@ -1,9 +1,9 @@
 -- No row so far meets the name, and what is left of the two names decides of this one.
-use Rattle.std.proofs.Common.{◌≡◌, false, not, ◌&&◌, length}
+use Rattle.std.proofs.Common.{◌≡◌, not, ◌&&◌, length}
 use Rattle.std.specs.Option.{option_map}
 use Rattle.meetings.specs.Meeting.{meet}
 use Rattle.claims.specs.Calls.{left_out}
-use Rattle.register.specs.Rows.{entries_of, name_of}
+use Rattle.register.specs.Rows.{entries_of}
 use Rattle.register.proofs.Searching.{From}
 use Rattle.register.proofs.table.Table.first_meeting.Given as goal
 

@@ -1,5 +1,5 @@
 -- A write behind the rows and a rotation put the row in.
-use Rattle.std.proofs.Common.{◌≡◌, ◌+◌, ◌-◌, map, take, set, refl, ap, ◌∙◌, arith}
+use Rattle.std.proofs.Common.{◌+◌, ◌-◌, map, take, set, refl, ap, ◌∙◌, arith}
 use Rattle.std.proofs.lemmas.List.Edits.{length-between}
 use Rattle.std.proofs.lemmas.List.{length-set}
 use Rattle.register.specs.Rows.{entries_of, entry_of}

@@ -1,5 +1,5 @@
 -- A rotation takes the row out.
-use Rattle.std.proofs.Common.{◌≡◌, ◌-◌, map, take, refl, ap, ◌∙◌, arith}
+use Rattle.std.proofs.Common.{◌-◌, map, take, refl, ap, ◌∙◌, arith}
 use Rattle.std.proofs.lemmas.List.Edits.{length-between}
 use Rattle.register.specs.Rows.{entries_of, entry_of}
 use Rattle.register.proofs.Tables.{out_entries}

@@ -1,4 +1,4 @@
-use Rattle.std.proofs.Common.{◌≡◌, sym, ap, ◌∙◌, arith}
+use Rattle.std.proofs.Common.{sym, arith}
 use Rattle.register.proofs.Tables.{count_length, row_at}
 use Rattle.std.proofs.lemmas.Option.{slice_get_past as nth_past}
 use Rattle.register.specs.Rows.{entries_of}

@@ -1,5 +1,5 @@
 -- A name that does not come before this one ends the search.
-use Rattle.std.proofs.Common.{◌≡◌, sym, ap, ◌∙◌, arith}
+use Rattle.std.proofs.Common.{sym, ap, ◌∙◌, arith}
 use Rattle.std.proofs.lemmas.Bool.{cond-false, cond-true}
 use Rattle.claims.specs.Entries.{before, slot}
 use Rattle.register.proofs.Tables.{row_here, row_none, rows_count}

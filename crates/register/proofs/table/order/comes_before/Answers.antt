@@ -1,4 +1,4 @@
-use Rattle.std.proofs.Common.{◌≡◌, ◌∙◌, arith}
+use Rattle.std.proofs.Common.{◌∙◌, arith}
 use Rattle.register.proofs.Comparing.{bytes_differ, bytes_same, left_ends, right_ends}
 use Rattle.register.proofs.table.order.comes_before.Goals as goal
 
