@@ -6,6 +6,7 @@ usage: python3 tools/respell.py [FOLDER]     FOLDER has crates/; the current fol
 Run it after port.py; a second run changes nothing. It collects the names that specs/, the lemma files of proofs/ and the helpers
 beside answers define, bind or import under another name, and rewrites each of them, as a whole word, in the .antt files and in what
 the .rt files say outside strings and comments. Names of goals and steps, which Rattle makes, stay; so do names of src/ and all strings.
+It also calls the library's AllByRecursion by its own name where a file imports it as All, since All is another word of the library.
 It prints the names that fall together. With --clashes it changes nothing, and prints each file that has a new name already.
 """
 
@@ -128,6 +129,9 @@ def main():
         text = read(path)
         pattern = ANTT if path.endswith(".antt") else RUST
         turned = pattern.sub(lambda m: new.get(m[0], m[0]), text)
+        if "AllByRecursion as All" in turned:
+            turned = turned.replace("AllByRecursion as All", "AllByRecursion")
+            turned = pattern.sub(lambda m: "AllByRecursion" if m[0] == "All" else m[0], turned)
         if turned != text:
             count += 1
             with open(path, "w", encoding="utf-8", newline="") as it:
