@@ -1,4 +1,4 @@
--- Equal lists, and the tests that tell them.
+-- Lemmas for the laws that src/ proves: equal lists, and the tests that tell them.
 use Rattle.std.specs.Prelude.{◌≡◌, ℕ, Bool, true, false, ◌||◌, ◌⊎◌, List, [], ◌∷◌, Decides, ◌≢◌}
 use Rattle.std.proofs.Common.{sym, subst, ◌∙◌, inl, inr, arith}
 use Rattle.std.proofs.lemmas.Bool.Decides.{same_from_decides}

@@ -5,5 +5,6 @@ pub mod Refusal
 pub mod Kept
 pub mod Layered
 pub mod Piles
+-- Lemmas that the laws in src/ cite: they are proved, and nothing in them has to be believed.
 pub mod Alike
 pub mod Listing

@@ -1,4 +1,4 @@
--- The declared pairs as a list: what is kept, added and found.
+-- Lemmas for the laws that src/ proves: the declared pairs as a list, and what is kept, added and found.
 use Rattle.std.specs.Prelude.{◌≡◌, ℕ, ◌+◌, ◌<◌, ◌≤◌, Bool, true, false, ◌&&◌, ◌||◌, List, [], ◌∷◌, ◌++◌, map, length, take, drop, Decides, slice_index_or, slice_set, refl}
 use Rattle.std.proofs.Common.{sym, ap, subst, ◌∙◌, inl, inr, arith}
 use Rattle.std.specs.List.{ContainsAt as Has, AllByRecursion}

@@ -1,4 +1,4 @@
--- The numbers of a key are at most 1,114,111.
+-- Lemmas for a law that src/ proves: the numbers of a key are at most 1,114,111.
 use Rattle.std.specs.Prelude.{ℕ, ◌-◌, ◌<◌, ◌≤◌, Bool, true, false, cond, not, List, [], ◌∷◌, map, length, drop, codes, filter}
 use Rattle.std.proofs.Common.{arith}
 use Rattle.std.specs.Char.{to_ascii_lowercase}

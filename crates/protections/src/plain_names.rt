@@ -36,7 +36,7 @@ pub fn named<P: Keyed>(keyed: &P, component: &[u8], name: &[u8]) -> bool
     same(Cursor::new(keyed, component), Cursor::new(&Plain, name))
 }
 
-// Whether the component's key is one of the names.
+// Whether the component's key is one of the names. No verdict asks it: lists of fixed names are compared from the front (`cut_names`).
 pub(crate) fn named_among<P: Keyed>(keyed: &P, component: &[u8], names: &[&[u8]]) -> bool
     ensures { result ≡ listed (map (λ x. x.now) names.now) (P.Keyed.key keyed.now component.now) }
 {

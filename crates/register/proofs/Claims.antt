@@ -1,4 +1,4 @@
--- What holds of a register after any list of calls.
+-- What holds of a register after any list of calls, in its earlier form.
 use Rattle.std.proofs.Common.{◌≡◌, ℕ, true, List, [], ◌∷◌, ◌++◌, Option, sym, refl, ◌∙◌, subst, inl, arith}
 use Rattle.std.proofs.lemmas.Bool.{both_ways}
 use Rattle.tag.proofs.Members.{each_from_all}

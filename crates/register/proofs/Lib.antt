@@ -7,6 +7,7 @@ pub mod Answering
 pub mod Comparing
 pub mod Judging
 pub mod Naming
+-- The lemmas on the earlier form of the register's claim, which no contract cites.
 pub mod Putting
 pub mod Tallies
 pub mod Steps

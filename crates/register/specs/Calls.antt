@@ -1,4 +1,5 @@
--- What each call of a register answers, and which entries it leaves.
+-- An earlier form of what each call of a register answers, and which entries it leaves. No contract cites it: the contracts cite
+-- Calls of the crate claims.
 use Rattle.std.specs.Prelude.{ℕ, ◌+◌, Bool, cond, not, ◌&&◌, List, [], ◌∷◌, length, Some, None, Option, nat_le}
 use Rattle.std.specs.Str.{bytes_eq}
 use Rattle.tag.specs.Components.{components}

@@ -1,4 +1,5 @@
--- What holds of a register after any list of calls, from a register with no entry.
+-- An earlier form of what holds of a register after any list of calls, from a register with no entry. No contract cites it: the
+-- contracts cite Claim of the crate claims.
 use Rattle.std.specs.Prelude.{◌≡◌, ℕ, ◌≤◌, max, Bool, true, false, not, ◌⊎◌, List, [], ◌∷◌, ◌++◌, length, None, Decides, Option, ◌≢◌}
 use Rattle.tag.specs.Components.{Among, components}
 use Rattle.rulebooks.specs.Rulings.Ruling.{allowed}

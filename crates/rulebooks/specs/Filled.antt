@@ -1,4 +1,4 @@
--- An allowed name has no empty component.
+-- Lemmas for a law that src/ proves: an allowed name has no empty component.
 use Rattle.std.specs.Prelude.{◌≡◌, ℕ, ◌+◌, List, [], ◌∷◌, ◌++◌, ◌≢◌, refl}
 use Rattle.std.proofs.Common.{⊎_elim, sym, ap, subst, arith}
 use Rattle.std.specs.List.{AllByRecursion}
