@@ -1,6 +1,8 @@
 -- The first names entered so far, one more at a time.
-use Rattle.std.proofs.Common.{◌≡◌, ℕ, zero, suc, ◌+◌, ◌*◌, ◌/◌, ◌<◌, ◌≤◌, true, false, cond, eqb, List, [], ◌∷◌, ◌++◌, map, length, take, drop, set, None, sym, refl, ap, ◌∙◌, mul-le-mul_right, add-mul, one-mul, div-mul-le_self, add-one, arith, length-append, take-append-drop}
-use Rattle.std.proofs.lemmas.List.{map-append, take_more_set}
+use Rattle.std.proofs.Common.{◌≡◌, ℕ, zero, suc, ◌+◌, ◌*◌, ◌/◌, ◌<◌, ◌≤◌, List, [], ◌∷◌, ◌++◌, map, length, take, drop, set, None, sym, refl, ap, ◌∙◌, add-mul, one-mul, add-one, arith, length-append, length-drop, min, take-append-drop}
+use Rattle.std.proofs.lemmas.List.{drop-drop, drop_at, map-append, take_at, take_more_set}
+use Rattle.std.proofs.lemmas.Bool.{ne_eqb}
+use Rattle.std.proofs.Math.Nat.{div-lt_iff_lt-mul, le-div_iff_mul-le}
 use Rattle.claims.specs.Calls.{Kept, entering, entries_after}
 use Rattle.claims.specs.Calls.Call.{enter}
 use Rattle.claims.specs.Histories.{answers, entries_left}
@@ -46,9 +48,26 @@ module _ (first : Kept) (k : ℕ) (s before : List ℕ) where
   pub all_entered : (n : ℕ) (bytes : List ℕ) (es : Kept) → Entered n bytes es → bytes ≡ bytes_after first (enters k s n) before
   all_entered n bytes es e = rw (enters_long n) (sym (take-append-drop n bytes) ∙ cc (e.answered, e.rest))
 
--- The name at an index lies within the bytes.
-pub within : (k : ℕ) (s : List ℕ) (i : ℕ) → i < names_in k s → i * k + k ≤ length s
-within k s i =
-    let whole : i < length s / k → i * k + k ≤ length s =
-    λ lt. omega (arith, div-mul-le_self (length s) k, mul-le-mul_right {m = i + 1} {n = length s / k} k (omega arith), add-mul i 1 k, one-mul k) in
-    elim (eqb k 0) as (λ b. i < cond b 0 (length s / k) → i * k + k ≤ length s) [ true ↦ λ lt. omega arith | false ↦ whole ]
+module _ (k : ℕ) (s : List ℕ) (some : 0 < k) (i : ℕ) (rest : List ℕ) (within : i * k ≤ length s) (at : rest ≡ drop (i * k) s) where
+  next : (i + 1) * k ≡ i * k + k
+  next = add-mul i 1 k ∙ ap (λ m. i * k + m) (one-mul k)
+
+  -- The first k bytes of what is left are the next name.
+  pub next_name : (x after : List ℕ) → rest ≡ x ++ after → length x ≡ k
+      → (x ≡ name_at k s i) × (after ≡ drop ((i + 1) * k) s) × ((i + 1) * k ≤ length s)
+  next_name x after splits long =
+      let cut : drop (i * k) s ≡ x ++ after = sym at ∙ splits in
+      let size : length (drop (i * k) s) ≡ length x + length after = ap length cut ∙ length-append x after in (
+        sym (ap (take k) cut ∙ take_at x after k long),
+        rw next (sym (drop_at x after k long) ∙ (ap (drop k) (sym cut) ∙ drop-drop k (i * k) s)),
+        omega (arith, next, size, length-drop (i * k) s),
+      )
+
+  -- Where no name is left, or no room, all are entered.
+  pub all_taken : (n room : ℕ) → i + n ≡ room → (0 < n → length rest < k) → i ≡ min (names_in k s) room
+  all_taken n room left ends =
+      let low : i ≤ length s / k = (le-div_iff_mul-le some).1 within in
+      let high : 0 < n → length s / k < i + 1 = λ more. (div-lt_iff_lt-mul some).1 (omega (arith, ends more, ap length at, length-drop (i * k) s, next)) in
+      let count : names_in k s ≡ length s / k = rw (ne_eqb k 0 (λ e. omega arith)) in
+      let here : i ≡ min (length s / k) room = grind (arith, low, high, left) in
+      here ∙ ap (λ q. min q room) (sym count)

@@ -6,14 +6,16 @@ ghost use Rattle.claims.specs.Calls.{entering, entries_after};
 ghost use Rattle.claims.specs.Calls.Call.{enter as an_enter};
 ghost use Rattle.claims.specs.Histories.{entries_left};
 ghost use Rattle.register.specs.Faults.{outcome_of};
+ghost use Rattle.register.specs.Meanings.{mending_meaning_in};
 ghost use Rattle.register.specs.Registers.{entries_in};
-ghost use Rattle.batches.specs.Batch.{batch, byte_of, bytes_after, count_left, names_in, number_at};
-ghost use Rattle.runs.specs.Campus.{campus, stated};
+ghost use Rattle.batches.specs.Batch.{batch, byte_of, bytes_after, count_left, number_at};
+ghost use Rattle.runs.specs.Campus.{campus};
 
-use filesystems::{MacPile, mac_and_windows};
+use filesystems::{FileSystem, MacPile, mac_and_windows};
 use register::Register;
 use register::faults::Fault;
 use rulebooks::names::PartialNames;
+use rulebooks::{MendingRulebook, Rulebook};
 
 /// A register of partial names on HFS+ over NTFS over the plain bottom.
 type Campus = Register<PartialNames, MacPile>;
@@ -21,7 +23,7 @@ type Campus = Register<PartialNames, MacPile>;
 /// A register with no entry.
 fn empty_register() -> Campus
     ensures entries { entries_in result ≡ [] }
-    ensures meaning { stated result ≡ campus }
+    ensures meaning { mending_meaning_in ⟦<PartialNames as Rulebook>⟧ ⟦<PartialNames as MendingRulebook>⟧.mended ⟦<MacPile as FileSystem>⟧ result ≡ campus }
 {
     Register::new(PartialNames, mac_and_windows())
 }
@@ -30,17 +32,14 @@ fn empty_register() -> Campus
 fn answer_byte(answer: Result<usize, Fault>) -> u8
     ensures { result ≡ byte_of (outcome_of answer) }
 {
-    match answer {
-        Ok(_) => 0,
-        Err(fault) => fault.number(),
-    }
+    answer.err().map_or(0, |fault| fault.number())
 }
 
 /// The number of the name at an index: the index, and `u32::MAX` where that does not fit.
 fn name_number(index: usize) -> u32
     ensures { result ≡ number_at index }
 {
-    index.min(u32::MAX as usize) as u32
+    u32::try_from(index).unwrap_or(u32::MAX)
 }
 
 /// Enters the name at an index with its number and no mode, and gives the answer as a byte.
@@ -51,22 +50,18 @@ fn enter_name(register: &mut Campus, name: &[u8], index: usize) -> u8
     answer_byte(register.enter(name, name_number(index), None))
 }
 
-/// How many names of `length` bytes there are.
-fn count_names(names: &[u8], length: usize) -> usize
-    ensures { result ≡ names_in length names.now }
-{
-    if length == 0 { 0 } else { names.len() / length }
-}
-
 /// Enters names of `length` bytes each from the left, as many as there is room for answers.
 fn enter_names(register: &mut Campus, names: &[u8], length: usize, answers: &mut [u8])
     ensures answers { answers.new ≡ bytes_after (entries_in register.old) (batch length names.now answers.old) answers.old }
     ensures entries { entries_in register.new ≡ entries_left campus (entries_in register.old) (batch length names.now answers.old) }
 {
-    let count = count_names(names, length).min(answers.len());
-    for index in 0..count {
-        let start = index * length;
-        answers[index] = enter_name(register, &names[start..start + length], index);
+    if length == 0 {
+        return;
+    }
+    let room = answers.len();
+    // No zip with `answers.iter_mut()`: after it nothing is known of what it wrote.
+    for (index, name) in names.chunks_exact(length).enumerate().take(room) {
+        answers[index] = enter_name(register, name, index);
     }
 }
 

@@ -1,5 +1,5 @@
 -- The Standard lays down one part only.
-use Rattle.std.proofs.Common.{◌≡◌, ℕ, zero, suc, ◌+◌, ◌<◌, ◌≤◌, Bool, true, false, cond, eqb, ◌⊎◌, List, [], ◌∷◌, ◌++◌, length, take, Some, None, Option, sym, refl, ap, ◌∙◌, inl, inr, one-add, arith}
+use Rattle.std.proofs.Common.{◌≡◌, ℕ, zero, suc, ◌+◌, ◌<◌, ◌≤◌, Bool, true, false, cond, eqb, ◌⊎◌, List, [], ◌∷◌, ◌++◌, length, take, Some, None, Option, sym, refl, ap, ◌∙◌, subst, inl, inr, one-add, arith}
 use Rattle.std.specs.List.{common_prefix_len}
 use Rattle.std.proofs.lemmas.List.{length-take-le}
 use Rattle.std.proofs.lemmas.List.Sums.{common_prefix_len-le}
@@ -8,10 +8,10 @@ use Rattle.characters.specs.declared.Range.{Range}
 use Rattle.characters.specs.declared.Part.{Part}
 use Rattle.characters.specs.declared.Part.TheVariants.{Character, Replaced}
 use Rattle.characters.specs.Table.{table, EachWithin, within, following_of}
-use Rattle.characters.specs.Standard.{code_point_of, Begins, IsCharacter, IsReplaced, IsPart}
+use Rattle.characters.specs.Standard.{code_point_of, Begins, IsCharacter, IsReplaced, IsPart, Standard, Only}
 use Rattle.characters.specs.Reader.{part_by, next_part, first_part}
 use Rattle.characters.proofs.Rows.{common_in, inside, full, no_longer, picks, picked, table_ascends}
-use Rattle.characters.proofs.Steps.{begins, tail_of}
+use Rattle.characters.proofs.Steps.{begins, standing, tail_of}
 
 -- as many bytes as ranges
 as_many : (s : List ℕ) (rs : List Range) → EachWithin s rs → length s ≡ length rs
@@ -95,3 +95,7 @@ only [] (Character c n) i = let a = i.some in let b = i.inside in let z : ⊥ = 
 only [] (Replaced n) i = let a = i.some in let b = i.inside in let z : ⊥ = omega arith in absurd z
 only (b ∷ bs) (Character c n) i = ap Some (sym (only_character b bs c n (following_of table b) refl i.some i.inside i.told))
 only (b ∷ bs) (Replaced n) i = ap Some (sym (only_replaced b bs n (following_of table b) refl i.some i.inside i.told))
+
+-- So the part that the definition has is the Standard's, and no other is.
+pub laid_down : (s : List ℕ) (r : Option Part) → r ≡ first_part s → Standard s r × Only s r
+laid_down s r v = (subst (Standard s) (sym v) (standing s), λ p i. v ∙ only s p i)

@@ -1,6 +1,6 @@
 -- What the table and the test of a sequence against ranges say of one another.
-use Rattle.std.proofs.Common.{◌≡◌, ℕ, zero, suc, ◌+◌, ◌<◌, ◌≤◌, Bool, true, false, ◌⊎◌, List, [], ◌∷◌, ◌++◌, map, length, take, drop, Some, sym, refl, ◌∙◌, subst, inl, inr, one-add, arith}
-use Rattle.std.specs.List.{common_prefix_len}
+use Rattle.std.proofs.Common.{◌≡◌, ℕ, zero, suc, ◌+◌, ◌<◌, ◌≤◌, Bool, true, false, cond, ◌⊎◌, List, [], ◌∷◌, ◌++◌, map, length, take, drop, Some, sym, refl, ap, ◌∙◌, subst, inl, inr, one-add, arith}
+use Rattle.std.specs.List.{common_prefix_len, prefix_len, zip}
 use Rattle.std.proofs.lemmas.Bool.Decides.{nat_tests}
 use Rattle.characters.specs.declared.Range.{Range}
 use Rattle.characters.specs.Table.{Row, table, EachWithin, Follows, SomeRow, within, following_of}
@@ -141,3 +141,13 @@ opened (r ∷ rows) o b rs e = go (within b r.first) refl (opened rows o.1 b rs)
     go : (t : Bool) → within b r.first ≡ t → (following_of rows b ≡ Some rs → Open rs) → Open rs
     go true w later = subst Open (some_same (rw w at e)) o.0
     go false w later = later (rw w at e)
+
+-- a byte beside its range lies in it
+abbrev pub meets : ℕ × Range → Bool
+meets p = within p.0 p.1
+
+-- how many of such pairs do, from the front on
+pub common_prefix_zip : (bs : List ℕ) (rs : List Range) → prefix_len meets (zip bs rs) ≡ common_prefix_len within bs rs
+common_prefix_zip [] rs = refl
+common_prefix_zip (b ∷ bs) [] = refl
+common_prefix_zip (b ∷ bs) (r ∷ rs) = ap (λ n. cond (within b r) (1 + n) 0) (common_prefix_zip bs rs)

@@ -1,7 +1,7 @@
 -- The part at the front of a byte string is the one that the Standard lays down.
-use Rattle.std.proofs.Common.{◌≡◌, ℕ, zero, suc, ◌+◌, ◌-◌, ◌<◌, ◌≤◌, Bool, true, false, cond, eqb, List, [], ◌∷◌, ◌++◌, map, length, get_or, take, drop, Some, None, Option, sym, refl, ap, ◌∙◌, subst, inl, inr, one-add, arith, length-drop}
+use Rattle.std.proofs.Common.{◌≡◌, ℕ, zero, suc, ◌+◌, ◌-◌, ◌<◌, ◌≤◌, Bool, true, false, cond, eqb, List, [], ◌∷◌, ◌++◌, map, length, take, drop, Some, None, Option, sym, refl, ap, ◌∙◌, subst, inl, inr, one-add, arith, length-drop}
 use Rattle.std.specs.List.{flat_map, common_prefix_len}
-use Rattle.std.proofs.lemmas.List.{length-map, take_all, take-append-drop, take_rest}
+use Rattle.std.proofs.lemmas.List.{length-map, take-append-drop, take_rest}
 use Rattle.std.proofs.lemmas.List.Sums.{common_prefix_len-le}
 use Rattle.std.proofs.lemmas.Bool.{eqb-true, eqb-false, eq-eqb, ne_eqb}
 use Rattle.characters.specs.declared.Range.{Range}
@@ -191,10 +191,9 @@ standing (b ∷ bs) = stands b bs
 
 -- what the code found, as the definition has it
 
-pub at_none : (s : List ℕ) → 0 < length s → None ≡ following_of table (get_or s 0 0) → Some (Replaced 1) ≡ first_part s
+pub at_none : (b : ℕ) (bs : List ℕ) → None ≡ following_of table b → Some (Replaced 1) ≡ first_part (b ∷ bs)
 unfolding next_part part_by
-at_none [] l e = let z : ⊥ = omega arith in absurd z
-at_none (b ∷ bs) l e = ap (λ o. Some (part_by b bs o)) e
+at_none b bs e = ap (λ o. Some (part_by b bs o)) e
 
 module _ (rs : List Range) (m : ℕ) where
   part_some : (b : ℕ) (bs : List ℕ) → m ≡ common_prefix_len within bs rs → (t : Bool) → eqb m (length rs) ≡ t →
@@ -202,29 +201,20 @@ module _ (rs : List Range) (m : ℕ) where
   unfolding part_by
   part_some b bs e t h = rw (← e, h)
 
-  pub at_some : (s : List ℕ) → 0 < length s → Some rs ≡ following_of table (get_or s 0 0) →
-      m ≡ common_prefix_len within (take (length s - 1) (drop 1 s)) rs → 1 + m ≡ 1 + length rs →
-      (point : ℕ) → point ≡ code_point_of (take (1 + m - 0) s) →
-      Some (Character point (1 + m)) ≡ first_part s
+  pub at_some : (b : ℕ) (bs : List ℕ) → Some rs ≡ following_of table b → m ≡ common_prefix_len within bs rs → 1 + m ≡ 1 + length rs →
+      (point : ℕ) → point ≡ code_point_of (take (1 + m) (b ∷ bs)) → Some (Character point (1 + m)) ≡ first_part (b ∷ bs)
   unfolding next_part
-  at_some [] l e n t p q = let z : ⊥ = omega arith in absurd z
-  at_some (b ∷ bs) l e n t p q =
-      let rest = take_all (length (b ∷ bs) - 1) bs (omega arith) in
-      let here : m ≡ common_prefix_len within bs rs = rw rest at n in
-      let k : 1 + m - 0 ≡ suc (length rs) = omega arith in
+  at_some b bs e here t p q =
+      let k : 1 + m ≡ suc (length rs) = omega arith in
       let spelled : p ≡ code_point_of (b ∷ take (length rs) bs) = subst (λ n. p ≡ code_point_of (take n (b ∷ bs))) k q in
       let part = part_some b bs here true (eq-eqb m (length rs) (omega arith)) in
       let fits : Character p (1 + m) ≡ Character (code_point_of (b ∷ take (length rs) bs)) (1 + length rs) = cc in
       ap Some (fits ∙ sym part ∙ ap (part_by b bs) e)
 
-  pub at_part : (s : List ℕ) → 0 < length s → Some rs ≡ following_of table (get_or s 0 0) →
-      m ≡ common_prefix_len within (take (length s - 1) (drop 1 s)) rs → (1 + m ≡ 1 + length rs → ⊥) → Some (Replaced (1 + m)) ≡ first_part s
+  pub at_part : (b : ℕ) (bs : List ℕ) → Some rs ≡ following_of table b → m ≡ common_prefix_len within bs rs →
+      (1 + m ≡ 1 + length rs → ⊥) → Some (Replaced (1 + m)) ≡ first_part (b ∷ bs)
   unfolding next_part
-  at_part [] l e n t = let z : ⊥ = omega arith in absurd z
-  at_part (b ∷ bs) l e n t =
-      let rest = take_all (length (b ∷ bs) - 1) bs (omega arith) in
-      let here : m ≡ common_prefix_len within bs rs = rw rest at n in
-      ap Some (sym (part_some b bs here false (ne_eqb m (length rs) (omega arith))) ∙ ap (part_by b bs) e)
+  at_part b bs e here t = ap Some (sym (part_some b bs here false (ne_eqb m (length rs) (omega arith))) ∙ ap (part_by b bs) e)
 
 -- repeated steps
 

@@ -39,7 +39,8 @@ impl Part {
     }
 }
 
-// The bytes from `low` to `high`, both included.
+// The bytes from `low` to `high`, both included. A `RangeInclusive` also carries whether it is spent, for which the table of
+// the Standard has no place.
 #[derive(Clone, Copy)]
 struct Range {
     low: u8,
@@ -76,7 +77,7 @@ impl Range {
     fn contains(&self, byte: u8) -> bool
         ensures { result ≡ within byte self.now }
     {
-        self.low <= byte && byte <= self.high
+        (self.low..=self.high).contains(&byte)
     }
 }
 
@@ -103,11 +104,11 @@ fn matching(bytes: &[u8], ranges: &[Range]) -> usize
     ensures bytes_bound { result ≤ length bytes.now }
     ensures ranges_bound { result ≤ length ranges.now }
 {
-    let mut count = 0;
-    while count < bytes.len() && count < ranges.len() && ranges[count].contains(bytes[count]) {
-        count += 1;
-    }
-    count
+    bytes
+        .iter()
+        .zip(ranges)
+        .take_while(|(byte, range)| range.contains(**byte))
+        .count()
 }
 
 // The number that the bits of a sequence spell.
@@ -134,16 +135,14 @@ pub fn step(bytes: &[u8]) -> Option<Part>
     ensures standard { Standard bytes.now result }
     ensures only { Only bytes.now result }
 {
-    let [first, rest @ ..] = bytes else {
-        return None;
-    };
+    let (first, rest) = bytes.split_first()?;
     let Some(ranges) = following(*first) else {
         return Some(Part::Replaced { length: 1 });
     };
     let length = 1 + matching(rest, ranges);
     if length == 1 + ranges.len() {
         Some(Part::Character {
-            code_point: joined(&bytes[0..length]),
+            code_point: joined(&bytes[..length]),
             length,
         })
     } else {
@@ -157,11 +156,7 @@ pub fn take_part(rest: &mut &[u8]) -> Option<Part>
     ensures taken { Takes rest.old.now result rest.new.now }
     ensures whole { Whole rest.old.now }
 {
-    match step(rest) {
-        Some(part) => {
-            *rest = &rest[part.length()..];
-            Some(part)
-        }
-        None => None,
-    }
+    let part = step(rest)?;
+    *rest = &rest[part.length()..];
+    Some(part)
 }

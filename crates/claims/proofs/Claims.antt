@@ -5,6 +5,7 @@ use Rattle.std.proofs.lemmas.Bool.{both_ways}
 use Rattle.tag.specs.Components.{Among}
 use Rattle.tag.proofs.Members.{each_from_all}
 use Rattle.protections.specs.declared.rules.Mode.{Mode}
+use Rattle.filesystems.specs.Words.{Key, Among as Listed}
 use Rattle.meetings.specs.Meeting.{Meets}
 use Rattle.meetings.proofs.Meetings.{meet_decides, meets_turned, starts_meets}
 use Rattle.claims.specs.Entries.{Entry}
@@ -21,8 +22,8 @@ use Rattle.claims.proofs.Verdicts.{passes_from, unjudged_from}
 -- Each call of a run gave its answer after the earlier calls.
 ran_at : (m : Meaning) (first : Kept) {ds : List Done} {es : Kept} → Ran m first ds es → (later earlier : List Done) (d : Done)
     → ds ≡ later ++ (d ∷ earlier) → (fs : Kept) × Ran m first earlier fs × (d.outcome ≡ answer m fs d.call)
-ran_at m first start [] earlier d e = let z : ◌≡◌ {A = ℕ} 0 1 = cc in absurd (omega arith)
-ran_at m first start (c ∷ later) earlier d e = let z : ◌≡◌ {A = ℕ} 0 1 = cc in absurd (omega arith)
+ran_at m first start [] earlier d e = cc
+ran_at m first start (c ∷ later) earlier d e = cc
 ran_at m first (next {ds} {es} r c o fs a l) [] earlier d e =
     let same : ds ≡ earlier = cc in
     let newest : record { call = c; outcome = o } ≡ d = cc in
@@ -39,13 +40,16 @@ among_place (d ∷ es) e k =
     (λ n. let r = among_place es e n in let l = r.1 in (suc r.0, omega arith, r.2))
     k
 
-module _ (m : Meaning) (lawful : Lawful m) where
+-- The laws of file systems that the claim needs.
+module _ (m : Meaning)
+    (symmetric : (a b : List ℕ) → m.together a b ≡ true → m.together b a ≡ true)
+    (keyed : (key : Key) (a b : List ℕ) → Listed m.keys key → key a ≡ key b → m.together a b ≡ true) where
   -- A run from no entries leaves the entries of its tally.
   ran_sound : {ds : List Done} {es : Kept} → Ran m [] ds es → Sound m es (tally m ds)
   unfolding tally
   ran_sound start = record { orderly = tt; fine = tt; put_in = λ e k. k; no_more = λ e k. k; as_many = refl; unique = tt }
   ran_sound (next {ds} {es} r c o fs a l) =
-      rw (l, ← a) (step m lawful.symmetric es (tally m ds) (ran_sound r) c o (sym a))
+      rw (l, ← a) (step m symmetric es (tally m ds) (ran_sound r) c o (sym a))
 
   module _ (es t : Kept) (sound : Sound m es t) where
     -- Two entries at different places are in order, and do not meet.
@@ -70,30 +74,30 @@ module _ (m : Meaning) (lawful : Lawful m) where
     sound_apart = record {
       no_two_meet = no_two;
       no_key_list_begins = λ key k p q r d e s.
-          let law : (a b : List ℕ) → key a ≡ key b → m.together a b ≡ true = λ a b. lawful.keyed key a b k in (
+          let law : (a b : List ℕ) → key a ≡ key b → m.together a b ≡ true = λ a b. keyed key a b k in (
             λ b. no_two p q r d e s (starts_meets m.together key law d.name e.name b),
             λ b. no_two p q r d e s
-                (meets_turned m.together lawful.symmetric e.name d.name (starts_meets m.together key law e.name d.name b)),
+                (meets_turned m.together symmetric e.name d.name (starts_meets m.together key law e.name d.name b)),
           );
     }
 
--- The whole claim, of every run from no entries.
-from_none : (m : Meaning) → Lawful m → (ds : List Done) (es : Kept) → Ran m [] ds es → Claim m ds es
-from_none m lawful ds es ran =
-    let sound = ran_sound m lawful ran in
-    record {
-      entries = sound_same m lawful es (tally m ds) sound;
-      ruled_allowed = λ e k. (each_from_all _ es sound.fine e k).0;
-      passed = λ e k. passes_from m e.name e.mode (each_from_all _ es sound.fine e k).1;
-      apart = sound_apart m lawful es (tally m ds) sound;
-      enters_exact = λ later earlier x n mode o s l a q.
-          let r = ran_at m [] ran later earlier _ s in
-          rw r.2
-          (entering_refused m r.0 (tally m earlier) (ran_sound m lawful r.1) x mode l a (unjudged_from m x mode q));
-    }
+  -- The whole claim, of every run from no entries.
+  pub claim_by_laws : (ds : List Done) (es : Kept) → Ran m [] ds es → Claim m ds es
+  claim_by_laws ds es ran =
+      let sound = ran_sound ran in
+      record {
+        entries = sound_same es (tally m ds) sound;
+        ruled_allowed = λ e k. (each_from_all _ es sound.fine e k).0;
+        passed = λ e k. passes_from m e.name e.mode (each_from_all _ es sound.fine e k).1;
+        apart = sound_apart es (tally m ds) sound;
+        enters_exact = λ later earlier x n mode o s l a q.
+            let r = ran_at m [] ran later earlier _ s in
+            rw r.2
+            (entering_refused m r.0 (tally m earlier) (ran_sound r.1) x mode l a (unjudged_from m x mode q));
+      }
 
 pub claim : (m : Meaning) → Lawful m → (first : Kept) (ds : List Done) (es : Kept) → Ran m first ds es → first ≡ [] → Claim m ds es
-claim m lawful first ds es ran e = from_none m lawful ds es (subst (λ z. Ran m z ds es) e ran)
+claim m lawful first ds es ran e = claim_by_laws m lawful.symmetric lawful.keyed ds es (subst (λ z. Ran m z ds es) e ran)
 
 -- The offers of every run.
 pub offers : (m : Meaning) → Mending m → (first : Kept) (ds : List Done) (es : Kept) → Ran m first ds es → OffersClaim m ds

@@ -1,5 +1,5 @@
 -- What an accepted call tells of its arguments, and what any call leaves of the entries and the tally.
-use Rattle.std.proofs.Common.{◌≡◌, ℕ, Bool, true, false, cond, not, ◌&&◌, leb, List, length, Some, None, Option, refl, ⊎_elim, arith}
+use Rattle.std.proofs.Common.{◌≡◌, ℕ, Bool, true, false, cond, not, ◌&&◌, leb, List, length, Some, None, Option, refl, ⊎_elim}
 use Rattle.std.specs.List.{AllByRecursion}
 use Rattle.std.specs.Str.{bytes_eq}
 use Rattle.std.proofs.lemmas.Slice.Eq.{bytes_eq-Decides}
@@ -21,33 +21,33 @@ use Rattle.claims.proofs.Tallies.{Fine, Sound, others, same_number, sound_put, s
 
 -- Where the call is accepted, there is no fault, and what comes next is accepted.
 fault_passed : (o : Option Fault) (next : Outcome) (p : ℕ) → unless_fault o next ≡ accepted p → (o ≡ None) × (next ≡ accepted p)
-fault_passed (Some f) next p h = let z : ◌≡◌ {A = ℕ} 0 1 = cc in absurd (omega arith)
+fault_passed (Some f) next p h = cc
 fault_passed None next p h = (refl, h)
 
 -- Where it is accepted, the search for a name that meets found none.
 met_passed : (test : Entry (Option Mode) → Bool) (es : Kept) {o : Option ℕ} → Searched test es o
     → (next : Outcome) (p : ℕ) → unless_met o next ≡ accepted p → AllByRecursion (λ e. test e ≡ false) es
 met_passed test es (nowhere a) next p h = a
-met_passed test es (somewhere k t) next p h = let z : ◌≡◌ {A = ℕ} 0 1 = cc in absurd (omega arith)
+met_passed test es (somewhere k t) next p h = cc
 
 -- Where it is accepted, the old name is kept.
 kept_passed : (x : List ℕ) (es : Kept) {o : Option ℕ} → Searched (λ e. bytes_eq e.name x) es o
     → (next : ℕ → Outcome) (r : ℕ) → if_kept o next ≡ accepted r
     → (d : Entry (Option Mode)) × Among d es × (d.name ≡ x) × (q : ℕ) × (next q ≡ accepted r)
-kept_passed x es (nowhere a) next r h = let z : ◌≡◌ {A = ℕ} 0 1 = cc in absurd (omega arith)
+kept_passed x es (nowhere a) next r h = cc
 kept_passed x es (somewhere {p} {e} k t) next r h = (e, k, (bytes_eq-Decides e.name x).0 t, p, h)
 
 -- Where an offer is accepted, its mended text is entered.
 offer_entered : (b : Bool) (o : Outcome) (f : Fault) (p : ℕ) → cond b o (declined f) ≡ accepted p → o ≡ accepted p
 offer_entered true o f p h = h
-offer_entered false o f p h = let z : ◌≡◌ {A = ℕ} 0 1 = cc in absurd (omega arith)
+offer_entered false o f p h = cc
 
 -- Where there is no fault, neither the rulebook nor a verdict gave one.
 no_fault : (b : Bool) (kind : ℕ) (r : Ruling) (o : Option Fault) (f : Fault)
     → cond b (ruling_fault kind r o) (Some f) ≡ None → (r ≡ allowed) × (o ≡ None)
 no_fault true kind allowed o f h = (refl, h)
-no_fault true kind (refused n v) o f h = let z : ◌≡◌ {A = ℕ} 0 1 = cc in absurd (omega arith)
-no_fault false kind r o f h = let z : ◌≡◌ {A = ℕ} 0 1 = cc in absurd (omega arith)
+no_fault true kind (refused n v) o f h = cc
+no_fault false kind r o f h = cc
 
 module _ (m : Meaning) where
   -- A name with no fault is fine.

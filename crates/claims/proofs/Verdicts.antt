@@ -1,5 +1,5 @@
 -- The file system passes a name exactly when the search for the first verdict on its components finds none.
-use Rattle.std.proofs.Common.{◌≡◌, ℕ, ◌+◌, List, [], ◌∷◌, ◌++◌, Some, None, Option, sym, refl, ap, ◌∙◌, inl, inr, ⊎_elim, arith}
+use Rattle.std.proofs.Common.{◌≡◌, ℕ, ◌+◌, List, [], ◌∷◌, ◌++◌, Some, None, Option, sym, refl, ap, ◌∙◌, inl, inr, ⊎_elim}
 use Rattle.tag.specs.Components.{Among, components}
 use Rattle.protections.specs.declared.rules.Mode.{Mode}
 use Rattle.meetings.proofs.Meetings.{some_component}
@@ -11,7 +11,7 @@ abbrev pub Unjudged : Meaning → List ℕ → Option Mode → Type 0
 Unjudged m x mode = first_verdict m.judged mode 0 (components x) ≡ None
 
 no_first : (v : Option ℕ) (i : ℕ) (next : Option Fault) → or_else v i next ≡ None → (v ≡ None) × (next ≡ None)
-no_first (Some n) i next e = let z : ◌≡◌ {A = ℕ} 0 1 = cc in absurd (omega arith)
+no_first (Some n) i next e = cc
 no_first None i next e = (refl, e)
 
 -- A list that is not empty has a last element.
@@ -19,12 +19,12 @@ with_last : {X : Type 0} (xs : List X) → (xs ≡ [] → ⊥) → (front : List
 with_last [] n = absurd (n refl)
 with_last (x ∷ []) n = ([], x, refl)
 with_last (x ∷ (y ∷ ys)) n =
-    let r = with_last (y ∷ ys) (λ e. let z : ◌≡◌ {A = ℕ} 0 1 = cc in omega arith) in
+    let r = with_last (y ∷ ys) (λ e. cc) in
     (x ∷ r.0, r.1, ap (λ t. x ∷ t) r.2)
 
 append_some : {X : Type 0} (xs : List X) (y : X) → xs ++ y ∷ [] ≡ [] → ⊥
-append_some [] y e = let z : ◌≡◌ {A = ℕ} 0 1 = cc in omega arith
-append_some (x ∷ xs) y e = let z : ◌≡◌ {A = ℕ} 0 1 = cc in omega arith
+append_some [] y e = cc
+append_some (x ∷ xs) y e = cc
 
 module _ (judged : List ℕ → Option Mode → Option ℕ) (mode : Option Mode) where
   -- A component before others has no mode.

@@ -17,15 +17,17 @@ const R2: Part = Part::Replaced { length: 2 };
 
 const R3: Part = Part::Replaced { length: 3 };
 
+fn character(code_point: u32, length: usize) -> Part {
+    Part::Character { code_point, length }
+}
+
 // Whether the bytes have just these parts.
 fn reads(bytes: &[u8], expected: &[Part]) -> bool {
     let mut rest = bytes;
-    for part in expected {
-        if take_part(&mut rest) != Some(*part) {
-            return false;
-        }
-    }
-    take_part(&mut rest).is_none()
+    expected
+        .iter()
+        .all(|part| take_part(&mut rest) == Some(*part))
+        && take_part(&mut rest).is_none()
 }
 
 #[test]
@@ -34,34 +36,14 @@ fn well_formed(rt: HostRuntime) {
         reads(
             b"\x4D\xD0\xB0\xE4\xBA\x8C\xF0\x90\x8C\x82",
             &[
-                Part::Character {
-                    code_point: 0x4D,
-                    length: 1,
-                },
-                Part::Character {
-                    code_point: 0x430,
-                    length: 2,
-                },
-                Part::Character {
-                    code_point: 0x4E8C,
-                    length: 3,
-                },
-                Part::Character {
-                    code_point: 0x10302,
-                    length: 4,
-                },
+                character(0x4D, 1),
+                character(0x430, 2),
+                character(0x4E8C, 3),
+                character(0x10302, 4),
             ],
         )
     );
-    assert!(rt;
-        reads(
-            b"\xEF\xBF\xBD",
-            &[Part::Character {
-                code_point: 0xFFFD,
-                length: 3,
-            }],
-        )
-    );
+    assert!(rt; reads(b"\xEF\xBF\xBD", &[character(0xFFFD, 3)]));
 }
 
 #[test]
@@ -94,10 +76,7 @@ fn ill_formed(rt: HostRuntime) {
 
 #[test]
 fn before_a_colon(rt: HostRuntime) {
-    let colon = Part::Character {
-        code_point: 0x3A,
-        length: 1,
-    };
+    let colon = character(0x3A, 1);
     assert!(rt; reads(b"\xE2\x82\x3A", &[R2, colon]));
     assert!(rt; reads(b"\xF0\x80\x3A", &[R1, R1, colon]));
 }

@@ -1,17 +1,7 @@
 //! Components at the edges of the rules, under settings of the protections.
-use path::{Mode, Options, component, component_is_windows_device};
+use crate::cases::{Case, LINK};
+use path::{Options, component, component_is_windows_device};
 use std::test::Fail;
-
-// A component, its mode, the settings, and the number of the refusal, 0 for none.
-#[derive(Clone, Copy)]
-struct Case {
-    input: &'static [u8],
-    mode: Option<Mode>,
-    options: Options,
-    number: u8,
-}
-
-const LINK: Option<Mode> = Some(Mode::Symlink);
 
 const NONE: Options = Options {
     protect_windows: false,
@@ -43,95 +33,48 @@ const ALL: Options = Options {
     protect_ntfs: true,
 };
 
+// Whether the components of the cases are kept or refused as they say.
+fn checks(options: Options, cases: &[Case]) -> bool {
+    cases.iter().all(|case| {
+        let refusal = component(case.input, case.mode, options).err();
+        refusal.map(|error| error.number()) == case.number
+    })
+}
+
 #[test]
-fn refusals(rt: HostRuntime) {
-    let cases = [
-        Case {
-            input: b"LPT0",
-            mode: None,
-            options: BOTH,
-            number: 24,
-        },
-        Case {
-            input: b"COM0",
-            mode: None,
-            options: BOTH,
-            number: 0,
-        },
-        Case {
-            input: b"LPT0",
-            mode: None,
-            options: NTFS,
-            number: 0,
-        },
-        Case {
-            input: b"\xE2\x82\x3A",
-            mode: None,
-            options: WINDOWS,
-            number: 23,
-        },
-        Case {
-            input: b"\xF0\x80\x3A",
-            mode: None,
-            options: WINDOWS,
-            number: 0,
-        },
-        Case {
-            input: b"c:",
-            mode: None,
-            options: WINDOWS,
-            number: 23,
-        },
-        Case {
-            input: b"",
-            mode: None,
-            options: NONE,
-            number: 21,
-        },
-        Case {
-            input: b"..",
-            mode: None,
-            options: NONE,
-            number: 28,
-        },
-        Case {
-            input: b".git:/x",
-            mode: None,
-            options: ALL,
-            number: 22,
-        },
-        Case {
-            input: b"~1000000",
-            mode: LINK,
-            options: NTFS,
-            number: 27,
-        },
-        Case {
-            input: b".GIT",
-            mode: None,
-            options: NONE,
-            number: 26,
-        },
-        Case {
-            input: b".gitmodules",
-            mode: LINK,
-            options: NONE,
-            number: 27,
-        },
-        Case {
-            input: b".gitmodules",
-            mode: None,
-            options: ALL,
-            number: 0,
-        },
+fn one_protection_or_none(rt: HostRuntime) {
+    let none = [
+        Case::refused(b"", None, 21),
+        Case::refused(b"..", None, 28),
+        Case::refused(b".GIT", None, 26),
+        Case::refused(b".gitmodules", LINK, 27),
     ];
-    for case in cases.iter() {
-        let number = match component(case.input, case.mode, case.options) {
-            Ok(_) => 0,
-            Err(error) => error.number(),
-        };
-        assert_eq!(rt; number, case.number);
-    }
+    let windows = [
+        Case::refused(b"\xE2\x82\x3A", None, 23),
+        Case::allowed(b"\xF0\x80\x3A", None),
+        Case::refused(b"c:", None, 23),
+    ];
+    let ntfs = [
+        Case::allowed(b"LPT0", None),
+        Case::refused(b"~1000000", LINK, 27),
+    ];
+    assert!(rt; checks(NONE, &none));
+    assert!(rt; checks(WINDOWS, &windows));
+    assert!(rt; checks(NTFS, &ntfs));
+}
+
+#[test]
+fn several_protections(rt: HostRuntime) {
+    let both = [
+        Case::refused(b"LPT0", None, 24),
+        Case::allowed(b"COM0", None),
+    ];
+    let all = [
+        Case::refused(b".git:/x", None, 22),
+        Case::allowed(b".gitmodules", None),
+    ];
+    assert!(rt; checks(BOTH, &both));
+    assert!(rt; checks(ALL, &all));
 }
 
 #[test]

@@ -1,53 +1,22 @@
 //! Verdicts on names at the edges of the rules.
-use protections::{Hfs, Mode, Ntfs, Plain, Protection, WindowsDevices, WindowsNames, same_key};
-
-// A component, its mode, and the number of the verdict, 0 for none.
-#[derive(Clone, Copy)]
-struct Case {
-    component: &'static [u8],
-    mode: Option<Mode>,
-    number: u8,
-}
-
-const LINK: Option<Mode> = Some(Mode::Symlink);
+use crate::cases::{Case, LINK};
+use protections::{Hfs, Ntfs, Plain, Protection, WindowsDevices, WindowsNames, same_key};
 
 // Whether the protection's verdicts are those of the cases.
 fn judges<P: Protection>(protection: &P, cases: &[Case]) -> bool {
-    for case in cases {
-        let number = match protection.verdict(case.component, case.mode) {
-            Some(verdict) => verdict.number(),
-            None => 0,
-        };
-        if number != case.number {
-            return false;
-        }
-    }
-    true
+    cases.iter().all(|case| {
+        let verdict = protection.verdict(case.input, case.mode);
+        verdict.map(|verdict| verdict.number()) == case.number
+    })
 }
 
 #[test]
 fn plain(rt: HostRuntime) {
     let cases = [
-        Case {
-            component: b".GIT",
-            mode: None,
-            number: 26,
-        },
-        Case {
-            component: b".GitModules",
-            mode: LINK,
-            number: 27,
-        },
-        Case {
-            component: b".GitModules",
-            mode: None,
-            number: 0,
-        },
-        Case {
-            component: b".gitignore",
-            mode: LINK,
-            number: 0,
-        },
+        Case::refused(b".GIT", None, 26),
+        Case::refused(b".GitModules", LINK, 27),
+        Case::allowed(b".GitModules", None),
+        Case::allowed(b".gitignore", LINK),
     ];
     assert!(rt; judges(&Plain, &cases));
 }
@@ -55,21 +24,9 @@ fn plain(rt: HostRuntime) {
 #[test]
 fn hfs(rt: HostRuntime) {
     let cases = [
-        Case {
-            component: b".g\xE2\x80\x8Cit",
-            mode: None,
-            number: 26,
-        },
-        Case {
-            component: b".git\xEF\xBB\xBFModules",
-            mode: LINK,
-            number: 27,
-        },
-        Case {
-            component: b".g\xE2\x80it",
-            mode: None,
-            number: 0,
-        },
+        Case::refused(b".g\xE2\x80\x8Cit", None, 26),
+        Case::refused(b".git\xEF\xBB\xBFModules", LINK, 27),
+        Case::allowed(b".g\xE2\x80it", None),
     ];
     assert!(rt; judges(&Hfs, &cases));
     assert!(rt; same_key(&Hfs, b"Group", b"gro\xE2\x80\xAEup"));
@@ -78,51 +35,15 @@ fn hfs(rt: HostRuntime) {
 #[test]
 fn ntfs(rt: HostRuntime) {
     let cases = [
-        Case {
-            component: b"GIT~1 . .",
-            mode: None,
-            number: 26,
-        },
-        Case {
-            component: b".git::$INDEX_ALLOCATION",
-            mode: None,
-            number: 26,
-        },
-        Case {
-            component: b"gitmod~4",
-            mode: LINK,
-            number: 27,
-        },
-        Case {
-            component: b"gitmod~5",
-            mode: LINK,
-            number: 0,
-        },
-        Case {
-            component: b"GI7EB~10",
-            mode: LINK,
-            number: 27,
-        },
-        Case {
-            component: b"gi7eba~1",
-            mode: LINK,
-            number: 27,
-        },
-        Case {
-            component: b"~1000000",
-            mode: LINK,
-            number: 27,
-        },
-        Case {
-            component: b"~0000000",
-            mode: LINK,
-            number: 0,
-        },
-        Case {
-            component: b"gi7eb~1",
-            mode: LINK,
-            number: 0,
-        },
+        Case::refused(b"GIT~1 . .", None, 26),
+        Case::refused(b".git::$INDEX_ALLOCATION", None, 26),
+        Case::refused(b"gitmod~4", LINK, 27),
+        Case::allowed(b"gitmod~5", LINK),
+        Case::refused(b"GI7EB~10", LINK, 27),
+        Case::refused(b"gi7eba~1", LINK, 27),
+        Case::refused(b"~1000000", LINK, 27),
+        Case::allowed(b"~0000000", LINK),
+        Case::allowed(b"gi7eb~1", LINK),
     ];
     assert!(rt; judges(&Ntfs, &cases));
 }
@@ -130,48 +51,16 @@ fn ntfs(rt: HostRuntime) {
 #[test]
 fn windows(rt: HostRuntime) {
     let names = [
-        Case {
-            component: b"a\\b",
-            mode: None,
-            number: 22,
-        },
-        Case {
-            component: b"\xE2\x82\x3A",
-            mode: None,
-            number: 23,
-        },
-        Case {
-            component: b"\xF0\x80\x3A",
-            mode: None,
-            number: 0,
-        },
+        Case::refused(b"a\\b", None, 22),
+        Case::refused(b"\xE2\x82\x3A", None, 23),
+        Case::allowed(b"\xF0\x80\x3A", None),
     ];
     let devices = [
-        Case {
-            component: b"LPT0",
-            mode: None,
-            number: 24,
-        },
-        Case {
-            component: b"COM0",
-            mode: None,
-            number: 0,
-        },
-        Case {
-            component: b"Conout$ .txt",
-            mode: None,
-            number: 24,
-        },
-        Case {
-            component: b"a\"b",
-            mode: None,
-            number: 25,
-        },
-        Case {
-            component: b"a.",
-            mode: None,
-            number: 25,
-        },
+        Case::refused(b"LPT0", None, 24),
+        Case::allowed(b"COM0", None),
+        Case::refused(b"Conout$ .txt", None, 24),
+        Case::refused(b"a\"b", None, 25),
+        Case::refused(b"a.", None, 25),
     ];
     assert!(rt; judges(&WindowsNames, &names));
     assert!(rt; judges(&WindowsDevices, &devices));

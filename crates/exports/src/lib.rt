@@ -2,8 +2,9 @@
 #![tactic(auto)]
 
 ghost use Rattle.std.specs.Prelude.{◌≡◌, length, if◌then◌else◌};
-ghost use Rattle.tag.specs.Errors.{number_of, refusal as tag_refusal};
+ghost use Rattle.tag.specs.Errors.{number_of};
 ghost use Rattle.tag.specs.Names.{tag_name};
+ghost use Rattle.mending.specs.Errors.{outcome_of};
 ghost use Rattle.mending.specs.Mender.{buffer_after, outcome};
 ghost use Rattle.reference.specs.Errors.{answer_of};
 ghost use Rattle.reference.specs.Names.{branch_name, complete_name, partial_name};
@@ -15,6 +16,7 @@ use path::{Mode, Options};
 
 /// The answer of a check of names: the number of the refusal and its value, the invalid byte for 1 and else 0. Both are 0 for
 /// an allowed name. The name that 13 carries is the whole input.
+// C reads the two answers, so they are numbers.
 #[repr(C)]
 #[derive(Clone, Copy)]
 pub struct NameAnswer {
@@ -30,24 +32,40 @@ pub struct MendAnswer {
     pub length: usize,
 }
 
-/// The numbers of a result.
-fn numbers(res: Result<&[u8], reference::Error<'_>>) -> NameAnswer
-    ensures number { result.number ≡ number_of (answer_of res.entry) }
-    ensures value { result.value ≡ value_of (answer_of res.entry) }
-{
-    match res {
-        Ok(_) => NameAnswer {
-            number: 0,
-            value: 0,
-        },
-        Err(reference::Error::InvalidByte(byte)) => NameAnswer {
-            number: 1,
-            value: u32::from(byte),
-        },
-        Err(error) => NameAnswer {
-            number: u32::from(error.number()),
-            value: 0,
-        },
+/// The numbers of what a check of names answers.
+impl From<Result<&[u8], reference::Error<'_>>> for NameAnswer {
+    ghost from_gives = { λ res r. (r.number ≡ number_of (answer_of res)) × (r.value ≡ value_of (answer_of res)) };
+
+    fn from(res: Result<&[u8], reference::Error<'_>>) -> NameAnswer {
+        match res {
+            Ok(_) => NameAnswer {
+                number: 0,
+                value: 0,
+            },
+            Err(reference::Error::InvalidByte(byte)) => NameAnswer {
+                number: 1,
+                value: u32::from(byte),
+            },
+            Err(error) => NameAnswer {
+                number: u32::from(error.number()),
+                value: 0,
+            },
+        }
+    }
+}
+
+/// The numbers of what the mender answers.
+impl From<Result<usize, mending::Error>> for MendAnswer {
+    ghost from_gives = { λ res r. (r.number ≡ mend_number (outcome_of res)) × (r.length ≡ mend_length (outcome_of res)) };
+
+    fn from(res: Result<usize, mending::Error>) -> MendAnswer {
+        match res {
+            Ok(length) => MendAnswer { number: 0, length },
+            Err(error) => MendAnswer {
+                number: u32::from(error.number()),
+                length: 0,
+            },
+        }
     }
 }
 
@@ -56,7 +74,7 @@ pub extern "C" fn gushteral_reference_name_partial(input: &[u8]) -> NameAnswer
     ensures number { result.number ≡ number_of (partial_name input.now) }
     ensures value { result.value ≡ value_of (partial_name input.now) }
 {
-    numbers(reference::name_partial(input))
+    NameAnswer::from(reference::name_partial(input))
 }
 
 #[unsafe(no_mangle)]
@@ -64,7 +82,7 @@ pub extern "C" fn gushteral_reference_name(input: &[u8]) -> NameAnswer
     ensures number { result.number ≡ number_of (complete_name input.now) }
     ensures value { result.value ≡ value_of (complete_name input.now) }
 {
-    numbers(reference::name(input))
+    NameAnswer::from(reference::name(input))
 }
 
 #[unsafe(no_mangle)]
@@ -72,24 +90,14 @@ pub extern "C" fn gushteral_reference_branch_name(input: &[u8]) -> NameAnswer
     ensures number { result.number ≡ number_of (branch_name input.now) }
     ensures value { result.value ≡ value_of (branch_name input.now) }
 {
-    numbers(reference::branch_name(input))
+    NameAnswer::from(reference::branch_name(input))
 }
 
-/// The numbers of a tag name's error.
-fn tag_numbers(error: tag::Error) -> NameAnswer
-    ensures number { result.number ≡ number_of (tag_refusal error) }
-    ensures value { result.value ≡ value_of (tag_refusal error) }
+/// The check of tag names, with its error as that of a reference name.
+fn tag_name(input: &[u8]) -> Result<&[u8], reference::Error<'_>>
+    ensures { answer_of result ≡ tag_name input.now }
 {
-    match error {
-        tag::Error::InvalidByte(byte) => NameAnswer {
-            number: 1,
-            value: u32::from(byte),
-        },
-        _ => NameAnswer {
-            number: u32::from(error.number()),
-            value: 0,
-        },
-    }
+    Ok(tag::name(input)?)
 }
 
 #[unsafe(no_mangle)]
@@ -97,13 +105,7 @@ pub extern "C" fn gushteral_tag_name(input: &[u8]) -> NameAnswer
     ensures number { result.number ≡ number_of (tag_name input.now) }
     ensures value { result.value ≡ value_of (tag_name input.now) }
 {
-    match tag::name(input) {
-        Ok(_) => NameAnswer {
-            number: 0,
-            value: 0,
-        },
-        Err(error) => tag_numbers(error),
-    }
+    NameAnswer::from(tag_name(input))
 }
 
 #[unsafe(no_mangle)]
@@ -115,23 +117,18 @@ pub extern "C" fn gushteral_reference_name_partial_or_sanitize(
     ensures length { result.length ≡ mend_length (outcome input.now (length out.old)) }
     ensures buffer { out.new ≡ buffer_after input.now out.old }
 {
-    match reference::name_partial_or_sanitize(input, out) {
-        Ok(length) => MendAnswer { number: 0, length },
-        Err(error) => MendAnswer {
-            number: u32::from(error.number()),
-            length: 0,
-        },
-    }
+    MendAnswer::from(reference::name_partial_or_sanitize(input, out))
 }
 
 /// The mode by a number: 0 is absent, and any other is a symbolic link.
 fn mode(link: u8) -> Option<Mode>
     ensures { result ≡ mode_by link }
 {
-    if link == 0 { None } else { Some(Mode::Symlink) }
+    (link != 0).then_some(Mode::Symlink)
 }
 
 /// Whether a component is allowed under the protections that are on: a flag is off at 0 and on at any other number.
+// C passes the settings, so each is a number of its own.
 #[unsafe(no_mangle)]
 pub extern "C" fn gushteral_path_component(
     input: &[u8],
@@ -147,10 +144,9 @@ pub extern "C" fn gushteral_path_component(
         protect_hfs: hfs != 0,
         protect_ntfs: ntfs != 0,
     };
-    match path::component(input, mode(link), options) {
-        Ok(_) => 0,
-        Err(error) => u32::from(error.number()),
-    }
+    path::component(input, mode(link), options)
+        .err()
+        .map_or(0, |error| u32::from(error.number()))
 }
 
 /// 1 where Windows takes the component for a device, and else 0.
@@ -158,9 +154,5 @@ pub extern "C" fn gushteral_path_component(
 pub extern "C" fn gushteral_path_component_is_windows_device(input: &[u8]) -> u8
     ensures { result ≡ (if is_device input.now then 1 else 0) }
 {
-    if path::component_is_windows_device(input) {
-        1
-    } else {
-        0
-    }
+    u8::from(path::component_is_windows_device(input))
 }

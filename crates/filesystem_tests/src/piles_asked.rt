@@ -4,18 +4,17 @@ use protections::{Mode, Protection};
 
 // The number of the verdict, or 0.
 fn number<F: FileSystem>(files: &F, component: &[u8], mode: Option<Mode>) -> u8 {
-    match files.verdict(component, mode) {
-        Some(verdict) => verdict.number(),
-        None => 0,
-    }
+    files
+        .verdict(component, mode)
+        .map_or(0, |verdict| verdict.number())
 }
 
 // The number of the refusal, or 0.
 fn declared(bottom: &mut DeclaredBottom, left: &[u8], right: &[u8]) -> u8 {
-    match bottom.declare(left, right) {
-        Ok(()) => 0,
-        Err(error) => error.number(),
-    }
+    bottom
+        .declare(left, right)
+        .err()
+        .map_or(0, |error| error.number())
 }
 
 const LINK: Option<Mode> = Some(Mode::Symlink);

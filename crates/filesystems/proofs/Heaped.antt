@@ -1,15 +1,11 @@
--- Piles: a verdict given twice counts once, and what lies together by several keys.
-use Rattle.std.proofs.Common.{◌≡◌, ℕ, ◌||◌, ◌⊎◌, List, Some, None, Decides, Option, refl, inl, inr}
+-- Piles: what lies together by several keys.
+use Rattle.std.proofs.Common.{◌≡◌, ℕ, ◌||◌, ◌⊎◌, List, Decides, inl, inr}
 use Rattle.std.proofs.lemmas.Bool.Decides.{Decides-or, Decides-like}
 use Rattle.protections.specs.Words.{equals}
 use Rattle.protections.proofs.Equal.{equals_decides}
-use Rattle.filesystems.specs.Words.{Key, first_of}
+use Rattle.filesystems.specs.Words.{Key}
 use Rattle.filesystems.specs.Pairs.{Pairs, confused, Confused}
 use Rattle.filesystems.specs.Listing.{confused_decides}
-
-pub twice : (v : Option ℕ) → first_of v v ≡ v
-twice None = refl
-twice (Some n) = refl
 
 module _ (h n : Key) (a b : List ℕ) where
   pub three_decides : Decides (equals (h a) (h b) || (equals (n a) (n b) || equals a b)) ((h a ≡ h b) ⊎ ((n a ≡ n b) ⊎ (a ≡ b)))

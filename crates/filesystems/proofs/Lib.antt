@@ -1,2 +1,3 @@
 -- The lemmas that the proofs share.
 pub mod Heaped
+pub mod Same

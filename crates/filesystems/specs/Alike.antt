@@ -1,7 +1,6 @@
 -- Lemmas for the laws that src/ proves: equal lists, and the tests that tell them.
-use Rattle.std.specs.Prelude.{◌≡◌, ℕ, Bool, true, false, ◌||◌, ◌⊎◌, List, [], ◌∷◌, Decides, ◌≢◌}
-use Rattle.std.proofs.Common.{sym, subst, ◌∙◌, inl, inr, arith}
-use Rattle.std.proofs.lemmas.Bool.Decides.{same_from_decides}
+use Rattle.std.specs.Prelude.{◌≡◌, ℕ, Bool, true, ◌||◌, ◌⊎◌, List, [], ◌∷◌, ◌≢◌}
+use Rattle.std.proofs.Common.{sym, subst, inl, inr, arith}
 use Rattle.std.proofs.lemmas.Bool.{or_cases, or_left, or_right}
 use Rattle.protections.specs.Words.{equals}
 use Rattle.protections.proofs.Equal.{equals_true, equals_decides}
@@ -20,14 +19,6 @@ equals_sym a b e = equals_from b a (sym (equals_true a b e))
 -- equal under a key that is another by name
 pub under : (k key : Key) (a b : List ℕ) → k ≡ key → key a ≡ key b → k a ≡ k b
 under k key a b p e = subst (λ h. h a ≡ h b) (sym p) e
-
--- the two ways through the test of a layer
-
-pub first_way : (x y : List ℕ) (r t : Bool) → Decides r (x ≡ y) → r ≡ true → r ≡ (equals x y || t)
-first_way x y r t d e = let f : equals x y ≡ true = equals_from x y (d.0 e) in e ∙ rw f
-
-pub second_way : (x y : List ℕ) (r s t : Bool) → Decides r (x ≡ y) → r ≡ false → s ≡ t → s ≡ (equals x y || t)
-second_way x y r s t d e f = let g : equals x y ≡ false = same_from_decides (equals x y) r (equals_decides x y) d ∙ e in f ∙ rw g
 
 -- the laws of a layer, from those below
 

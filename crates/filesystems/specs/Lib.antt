@@ -2,9 +2,6 @@
 pub mod Words
 pub mod Pairs
 pub mod Refusal
-pub mod Kept
-pub mod Layered
-pub mod Piles
 -- Lemmas that the laws in src/ cite: they are proved, and nothing in them has to be believed.
 pub mod Alike
 pub mod Listing

@@ -1,7 +1,7 @@
 -- Pairs of components that a storage confuses.
 use Rattle.std.specs.Prelude.{◌≡◌, ℕ, ◌≤◌, Bool, ◌&&◌, ◌||◌, ◌⊎◌, List, length}
-use Rattle.std.specs.List.{ContainsAt as Has, AllByRecursion}
-use Rattle.protections.specs.Words.{equals, some}
+use Rattle.std.specs.List.{ContainsAt as Has, AllByRecursion, list_any}
+use Rattle.protections.specs.Words.{equals}
 
 abbrev pub Pairs : Type 0
 Pairs = List (List ℕ × List ℕ)
@@ -13,7 +13,7 @@ Confused pairs a b = (a ≡ b) ⊎ (Has pairs (a, b) ⊎ Has pairs (b, a))
 -- the same as a test
 
 abbrev pub in_order : Pairs → List ℕ → List ℕ → Bool
-in_order pairs a b = some (λ p. equals a p.0 && equals b p.1) pairs
+in_order pairs a b = list_any (λ p. equals a p.0 && equals b p.1) pairs
 
 unfoldable pub confused : Pairs → List ℕ → List ℕ → Bool
 confused pairs a b = equals a b || (in_order pairs a b || in_order pairs b a)

@@ -32,10 +32,9 @@ impl<P: Protection, F: FileSystem> FileSystem for Layer<P, F> {
     ) };
 
     fn verdict(&self, component: &[u8], mode: Option<Mode>) -> Option<Verdict> {
-        match self.protection.verdict(component, mode) {
-            Some(verdict) => Some(verdict),
-            None => self.below.verdict(component, mode),
-        }
+        self.protection
+            .verdict(component, mode)
+            .or_else(|| self.below.verdict(component, mode))
     }
 
     fn lie_together(&self, left: &[u8], right: &[u8]) -> bool {

@@ -5,9 +5,8 @@ ghost use Rattle.protections.specs.Keys.{hfs_key, ntfs_key};
 ghost use Rattle.protections.specs.Rules.{windows_rule, hfs_rule, ntfs_rule, device_rule, plain_rule};
 ghost use Rattle.filesystems.specs.Words.{first_of, bytes_key};
 ghost use Rattle.filesystems.specs.Pairs.{Confused};
-ghost use Rattle.filesystems.specs.Kept.{declared_pairs};
-ghost use Rattle.filesystems.specs.Piles.{mac_and_windows, all_protections};
 
+use crate::interface::FileSystem;
 use crate::layers::Layer;
 use crate::plain_bottom::PlainBottom;
 use crate::storage::DeclaredBottom;
@@ -24,23 +23,24 @@ pub type FullPile = Layer<
 
 /// HFS+ over NTFS over the plain bottom.
 pub fn mac_and_windows() -> MacPile
-    ensures verdicts { (s : List ℕ) (mode : Maybe Kind) → mac_and_windows.judged result s mode ≡ first_of (hfs_rule s mode) (first_of (ntfs_rule s mode) (plain_rule s mode)) }
-    ensures confuses { (a b : List ℕ) → Decides (mac_and_windows.together result a b) ((hfs_key a ≡ hfs_key b) ⊎ ((ntfs_key a ≡ ntfs_key b) ⊎ (a ≡ b))) }
-    ensures compares { mac_and_windows.keys result ≡ hfs_key ∷ ntfs_key ∷ bytes_key ∷ [] }
+    ensures verdicts { (s : List ℕ) (mode : Maybe Kind) → ⟦<MacPile as FileSystem>⟧.judged result s mode ≡ first_of (hfs_rule s mode) (first_of (ntfs_rule s mode) (plain_rule s mode)) }
+    ensures confuses { (a b : List ℕ) → Decides (⟦<MacPile as FileSystem>⟧.together result a b) ((hfs_key a ≡ hfs_key b) ⊎ ((ntfs_key a ≡ ntfs_key b) ⊎ (a ≡ b))) }
+    ensures compares { ⟦<MacPile as FileSystem>⟧.keys result ≡ hfs_key ∷ ntfs_key ∷ bytes_key ∷ [] }
 {
     Layer::new(Hfs, Layer::new(Ntfs, PlainBottom))
 }
 
 /// Windows names over HFS+ over NTFS over Windows devices over Plain over the bottom.
 pub fn all_protections(bottom: DeclaredBottom) -> FullPile
-    ensures verdicts { (s : List ℕ) (mode : Maybe Kind) → all_protections.judged result s mode ≡ first_of (windows_rule s mode) (first_of (hfs_rule s mode) (first_of (ntfs_rule s mode) (first_of (device_rule s mode) (plain_rule s mode)))) }
-    ensures confuses { (a b : List ℕ) → Decides (all_protections.together result a b) ((hfs_key a ≡ hfs_key b) ⊎ ((ntfs_key a ≡ ntfs_key b) ⊎ Confused (declared_pairs bottom) a b)) }
-    ensures compares { all_protections.keys result ≡ bytes_key ∷ hfs_key ∷ ntfs_key ∷ bytes_key ∷ bytes_key ∷ bytes_key ∷ [] }
+    ensures verdicts { (s : List ℕ) (mode : Maybe Kind) → ⟦<FullPile as FileSystem>⟧.judged result s mode ≡ first_of (windows_rule s mode) (first_of (hfs_rule s mode) (first_of (ntfs_rule s mode) (first_of (device_rule s mode) (plain_rule s mode)))) }
+    ensures confuses { (a b : List ℕ) → Decides (⟦<FullPile as FileSystem>⟧.together result a b) ((hfs_key a ≡ hfs_key b) ⊎ ((ntfs_key a ≡ ntfs_key b) ⊎ Confused bottom a b)) }
+    ensures compares { ⟦<FullPile as FileSystem>⟧.keys result ≡ bytes_key ∷ hfs_key ∷ ntfs_key ∷ bytes_key ∷ bytes_key ∷ bytes_key ∷ [] }
 {
-    let plain = Layer::new(Plain, bottom);
-    let devices = Layer::new(WindowsDevices, plain);
-    let ntfs = Layer::new(Ntfs, devices);
-    let hfs = Layer::new(Hfs, ntfs);
-    let pile = Layer::new(WindowsNames, hfs);
-    pile
+    Layer::new(
+        WindowsNames,
+        Layer::new(
+            Hfs,
+            Layer::new(Ntfs, Layer::new(WindowsDevices, Layer::new(Plain, bottom))),
+        ),
+    )
 }

@@ -7,7 +7,7 @@ ghost use Rattle.filesystems.specs.Alike.{equals_sym, none_empty, equals_from, u
 ghost use Rattle.std.proofs.Common.{inl, inr};
 
 use crate::interface::FileSystem;
-use protections::{Mode, Plain, Protection, Verdict, named};
+use protections::{Mode, Plain, Protection, Verdict};
 
 /// A file system with the verdict and the key of the plain protection: only equal components lie together.
 #[derive(Clone, Copy)]
@@ -28,10 +28,11 @@ impl FileSystem for PlainBottom {
         Plain.verdict(component, mode)
     }
 
+    #[tactic(auto, using(crate::proofs::Same::pointwise_equals))]
     fn lie_together(&self, left: &[u8], right: &[u8]) -> bool
         ensures value { result ≡ equals left.now right.now }
         ensures decides { Decides result (left.now ≡ right.now) }
     {
-        named(&Plain, left, right)
+        left == right
     }
 }

@@ -7,8 +7,8 @@ use std::fmt;
 /// Why a pair is not declared.
 #[derive(Clone, Copy, PartialEq, Eq, Debug)]
 pub enum DeclareError {
-    ComponentTooLong,
-    TooManyPairs,
+    ComponentTooLong = 33,
+    TooManyPairs = 44,
 }
 
 impl DeclareError {
@@ -16,10 +16,7 @@ impl DeclareError {
     pub fn number(&self) -> u8
         ensures { result ≡ number_of self.now }
     {
-        match *self {
-            DeclareError::ComponentTooLong => 33,
-            DeclareError::TooManyPairs => 44,
-        }
+        *self as u8
     }
 
     /// The refusal in plain words.

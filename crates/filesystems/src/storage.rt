@@ -1,9 +1,12 @@
 //! The declared bottom: pairs of names that a storage confuses, kept in place.
-ghost use Rattle.std.specs.Prelude.{◌≡◌, ◌≤◌, length};
+ghost use Rattle.std.specs.Prelude.{◌≡◌, ℕ, ◌≤◌, List, length};
 
+use arrayvec::ArrayVec;
+use std::marker::Model;
+
+mod kept_pair;
 mod meaning;
 mod pairs;
-mod words;
 
 // The longest component of a pair, in bytes.
 const LONGEST: usize = 32;
@@ -11,28 +14,32 @@ const LONGEST: usize = 32;
 // How many pairs there may be.
 const MOST: usize = 16;
 
-// A component of at most 32 bytes: the first `len` of them.
-#[derive(Clone, Copy)]
-struct Word {
-    bytes: [u8; 32],
-    len: u8,
-    ghost room: { length bytes ≡ 32 },
-    ghost fits: { len ≤ 32 },
+// Two components that lie together.
+#[derive(Default, Drop)]
+struct Pair {
+    left: ArrayVec<u8, LONGEST>,
+    right: ArrayVec<u8, LONGEST>,
 }
 
-// Two components that lie together.
-#[derive(Clone, Copy)]
-struct Pair {
-    left: Word,
-    right: Word,
+impl Model for Pair {
+    ghost Value = { List ℕ × List ℕ };
+
+    ghost view = { λ p. (p.left.items, p.right.items) };
 }
 
 /// A file system with the verdict and the key of the plain protection, that confuses some pairs of components besides.
 /// It holds at most 16 pairs of components of at most 32 bytes.
 #[derive(Drop)]
 pub struct DeclaredBottom {
-    pairs: [Pair; 16],
-    count: usize,
-    ghost room: { length pairs ≡ 16 },
-    ghost counted: { count ≤ 16 },
+    pairs: ArrayVec<Pair, MOST>,
+}
+
+impl Model for DeclaredBottom {
+    ghost use Rattle.filesystems.specs.Pairs.{Pairs, Within};
+
+    ghost Value = { Pairs };
+
+    ghost view = { λ d. d.pairs.items };
+
+    ghost invariant = { λ d. Within d.pairs.items };
 }

@@ -13,7 +13,7 @@ line_by allowed text = codes "kept " ++ (text ++ 10 ∷ [])
 line_by (refused n v) text = codes "mended " ++ (decimal n ++ (32 ∷ (mended text ++ 10 ∷ [])))
 
 -- The report's line for a text.
-unfoldable pub line_of : List ℕ → List ℕ
+abbrev pub line_of : List ℕ → List ℕ
 line_of text = line_by (partial_name text) text
 
 -- How many of these texts are kept.
@@ -21,7 +21,7 @@ abbrev pub kept_by : Answer → ℕ
 kept_by allowed = 1
 kept_by (refused n v) = 0
 
-unfoldable pub kept : List (List ℕ) → ℕ
+abbrev pub kept : List (List ℕ) → ℕ
 kept [] = 0
 kept (t ∷ ts) = kept_by (partial_name t) + kept ts
 
@@ -31,5 +31,5 @@ summary n k =
     codes "lines " ++ (decimal n ++ (codes " kept " ++ (decimal k ++ (codes " mended " ++ (decimal (n - k) ++ 10 ∷ [])))))
 
 -- The whole report for an input.
-unfoldable pub report_of : List ℕ → List ℕ
+abbrev pub report_of : List ℕ → List ℕ
 report_of s = flat_map line_of (lines s) ++ summary (length (lines s)) (kept (lines s))

@@ -1,7 +1,14 @@
 -- The first line of a text.
-use Rattle.std.proofs.Common.{◌≡◌, ℕ, zero, suc, ◌+◌, ◌<◌, List, [], ◌∷◌, length, get_or, take, drop, ap, add-one, arith}
-use Rattle.std.proofs.lemmas.Bool.{eq-eqb, ne_eqb}
+use Rattle.std.proofs.Common.{◌≡◌, ℕ, zero, suc, ◌+◌, ◌<◌, not, eqb, List, [], ◌∷◌, length, get_or, take, drop, Some, None, Option, sym, refl, ap, subst, add-one, arith}
+use Rattle.std.specs.List.{position, prefix_len}
+use Rattle.std.proofs.lemmas.List.Sums.{prefix_len_passes}
+use Rattle.std.proofs.lemmas.Grind.{common_steps}
+use Rattle.std.proofs.lemmas.Bool.{eq-eqb, eqb-true, eqb-false, ne_eqb}
+use Rattle.std.proofs.lemmas.List.Quantifiers.{position-Some}
+use Rattle.std.specs.Option.{option_map, unwrap_or}
+use Rattle.std.proofs.lemmas.Option.{none-some}
 use Rattle.tag.specs.Components.{onto}
+use Rattle.tag.specs.Cuts.{split_once}
 use Rattle.lines.specs.Lines.{lines}
 
 -- It ends before the first byte 10.
@@ -13,14 +20,38 @@ ended zero (b ∷ s) l f e = rw (eq-eqb b 10 e)
 ended (suc n) (b ∷ s) l f e =
     rw (ne_eqb b 10 (f 0 (omega arith))) (ap (onto b) (ended n s (omega arith) (λ k m. f (suc k) (omega arith)) e))
 
-pub first_line : (s : List ℕ) (n : ℕ) → n < length s → ((k : ℕ) → k < n → get_or s k 0 ≡ 10 → ⊥) → get_or s n 0 ≡ 10
-    → lines s ≡ take n s ∷ lines (drop (n + 1) s)
-first_line s n l f e = rw add-one (ended n s l f e)
-
 -- With no byte 10, it is the only one.
-pub only_line : (s : List ℕ) → 0 < length s → ((k : ℕ) → k < length s → get_or s k 0 ≡ 10 → ⊥) → lines s ≡ s ∷ []
+only_line : (s : List ℕ) → 0 < length s → ((k : ℕ) → k < length s → get_or s k 0 ≡ 10 → ⊥) → lines s ≡ s ∷ []
 unfolding lines
 only_line [] l f = absurd (omega arith)
 only_line (b ∷ []) l f = rw (ne_eqb b 10 (f 0 (omega arith)))
 only_line (b ∷ (d ∷ s)) l f =
     rw (ne_eqb b 10 (f 0 (omega arith))) (ap (onto b) (only_line (d ∷ s) (omega arith) (λ k m. f (suc k) (omega arith))))
+
+-- The first byte 10 of a text has what precedes it as the first line, and what follows it has the others.
+end_at : (s : List ℕ) (n : ℕ) → position (λ b. eqb b 10) s ≡ Some n → lines s ≡ take n s ∷ lines (drop (n + 1) s)
+end_at s n e =
+    let p = position-Some (λ b. eqb b 10) s n 0 e in
+    rw add-one (ended n s p.0 (λ k l q. eqb-false _ _ (p.2 k l) q) (eqb-true _ _ p.1))
+
+-- Where a text is cut at its first byte 10, its first line precedes the cut, and the others are those of what follows.
+pub lines-cut : (s : List ℕ) (p : List ℕ × List ℕ) → split_once 10 s ≡ Some p → lines s ≡ p.0 ∷ lines p.1
+lines-cut s p e = cut (position (λ b. eqb b 10) s) refl e
+  where
+    cut : (o : Option ℕ) → position (λ b. eqb b 10) s ≡ o
+        → option_map {U = List ℕ × List ℕ} (λ i. (take i s, drop (i + 1) s)) o ≡ Some p → lines s ≡ p.0 ∷ lines p.1
+    cut None q r = absurd (none-some _ r)
+    cut (Some n) q r = subst (λ t. lines s ≡ t.0 ∷ lines t.1) (ap (λ o. unwrap_or o p) r) (end_at s n q)
+
+-- A text with bytes that is not cut has no byte 10, so it is its only line.
+pub lines-uncut : (s : List ℕ) → 0 < length s → split_once 10 s ≡ None → lines s ≡ s ∷ []
+lines-uncut s some e = uncut (position (λ b. eqb b 10) s) refl e
+  where
+    uncut : (o : Option ℕ) → position (λ b. eqb b 10) s ≡ o
+        → option_map {U = List ℕ × List ℕ} (λ i. (take i s, drop (i + 1) s)) o ≡ None → lines s ≡ s ∷ []
+    uncut (Some n) q r = absurd (none-some _ (sym r))
+    uncut None q r = only_line s some (λ k l t.
+        let within : k < prefix_len (λ b. not (eqb b 10)) s = grind (arith, common_steps) in
+        let other = prefix_len_passes (λ b. not (eqb b 10)) s k 0 within in
+        let end = eq-eqb _ 10 t in
+        grind arith)

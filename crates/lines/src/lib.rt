@@ -2,7 +2,11 @@
 #![tactic(auto)]
 
 ghost use Rattle.std.specs.Prelude.{◌≡◌, ◌<◌, [], ◌∷◌, length, MatchOption};
+ghost use Rattle.std.specs.Iterator.{YieldsFirstRef, item_count};
+ghost use Rattle.lines.specs.Left.{lines_left};
 ghost use Rattle.lines.specs.Lines.{lines};
+
+use tag::splits::split_once;
 
 /// The first line of a text, and what comes after the byte that ends it; none if there are no bytes.
 pub fn next_line(text: &[u8]) -> Option<(&[u8], &[u8])>
@@ -12,10 +16,34 @@ pub fn next_line(text: &[u8]) -> Option<(&[u8], &[u8])>
     if text.is_empty() {
         return None;
     }
-    for (i, byte) in text.iter().enumerate() {
-        if *byte == b'\n' {
-            return Some((&text[0..i], &text[i + 1..]));
-        }
+    Some(split_once(text, b'\n').unwrap_or((text, &[])))
+}
+
+/// The lines of a text that are still to come. The last line may end with the text; a text with no byte has no line.
+#[derive(Clone, Copy, Debug)]
+pub struct Lines<'a> {
+    rest: &'a [u8],
+}
+
+impl<'a> Lines<'a> {
+    /// The lines of `text`.
+    pub fn of(text: &'a [u8]) -> Lines<'a>
+        ensures { lines_left result ≡ lines text.now }
+    {
+        Lines { rest: text }
     }
-    Some((text, &text[text.len()..]))
+}
+
+impl<'a> Iterator for Lines<'a> {
+    type Item = &'a [u8];
+
+    ghost next_gives = { YieldsFirstRef lines_left };
+
+    ghost remaining = { item_count lines_left };
+
+    fn next(&mut self) -> Option<&'a [u8]> {
+        let (line, rest) = next_line(self.rest)?;
+        self.rest = rest;
+        Some(line)
+    }
 }

@@ -1,59 +1,64 @@
 -- The lines of a report, one by one.
-use Rattle.std.proofs.Common.{◌≡◌, ℕ, zero, suc, ◌+◌, ◌<◌, true, List, [], ◌∷◌, ◌++◌, map, length, get_or, drop, is_some, Some, None, Option, refl, ap, ◌∙◌, append_assoc, arith}
+use Rattle.std.proofs.Common.{◌≡◌, ℕ, ◌+◌, ◌≤◌, true, false, cond, eqb, List, [], ◌∷◌, ◌++◌, map, length, Some, None, Option, Result, Iter, sym, ap, ◌∙◌, append_assoc, arith}
 use Rattle.std.specs.Option.{option_map}
-use Rattle.std.specs.List.{slice_get}
-use Rattle.std.proofs.lemmas.List.{map-append}
-use Rattle.std.proofs.lemmas.Bool.{false≢true}
+use Rattle.std.specs.Borrow.{Bor}
+use Rattle.std.specs.Slice.Iter.{iter_rest, iter_steps}
+use Rattle.std.proofs.lemmas.List.{append-nil, map-append, nil_from_length}
+use Rattle.tag.specs.Components.{onto}
+use Rattle.lines.specs.Lines.{lines}
 use Rattle.claims.specs.Calls.{Call, Outcome}
+use Rattle.register.specs.Faults.{outcome_of}
+use Rattle.register.specs.declared.faults.Fault.{Fault}
 use Rattle.listing.specs.Reading.{read_line}
-use Rattle.listing.specs.Report.{answer_line, answers_after, calls_in, first_line, onto_calls, unread_line}
+use Rattle.listing.specs.Parts.{outcome_at}
+use Rattle.listing.specs.Report.{answer_lines, answers_after, calls_in, first_answer, line_for, onto_calls}
 
-module _ {A C : Type 0} (outcome : A → Outcome) (call : C → Call) where
-  -- A line that is a call takes the first answer.
-  pub answered : (o : Option C) (r : Option Call) (os : List A) (d : A) → is_some o ≡ true → option_map call o ≡ r → 0 < length os
-      → (answer_line (outcome (get_or os 0 d)) ≡ first_line r (map outcome os)) × (map outcome (drop 1 os) ≡ answers_after r (map outcome os))
-  answered None r os d t e l = absurd (false≢true t)
-  answered (Some c) r [] d t e l = absurd (omega arith)
-  answered (Some c) r (a ∷ os) d t e l = (rw (← e), rw (← e))
+-- The next answer is that of a line which is a call.
+pub next_answer : (s t : Iter (Result ℕ Fault)) (r : Option Call) (c : Call) (o : Option (Bor (Result ℕ Fault))) → Some c ≡ r → iter_steps s o t
+    → (option_map outcome_at o ≡ first_answer r (map outcome_of (iter_rest s))) × (map outcome_of (iter_rest t) ≡ answers_after r (map outcome_of (iter_rest s)))
+next_answer s t r c None e h =
+    let none = nil_from_length (iter_rest s) h.0 in (rw (← e, none), rw (← e, h.1, none))
+next_answer s t r c (Some a) e h = (rw (← e, h), rw (← e, h))
 
-  -- One that is none, or for which there is no answer, takes none.
-  pub unread : (o : Option C) (r : Option Call) (os : List A) → option_map call o ≡ r → (is_some o ≡ true → 0 < length os → ⊥)
-      → (unread_line ≡ first_line r (map outcome os)) × (map outcome os ≡ answers_after r (map outcome os))
-  unread None r os e n = (rw (← e), rw (← e))
-  unread (Some c) r [] e n = (rw (← e), rw (← e))
-  unread (Some c) r (a ∷ os) e n = absurd (n refl (omega arith))
+module _ (v : List ℕ) (before : List (List ℕ)) (os : List Outcome) (all : List ℕ) (so_far : v ++ answer_lines before os ≡ all) where
+  -- The line of one line more is added.
+  pub line_more : (w line : List ℕ) (ls : List (List ℕ)) (rest : List Outcome) (o : Option Outcome) → before ≡ line ∷ ls → w ≡ v ++ line_for o
+      → (o ≡ first_answer (read_line line) os) × (rest ≡ answers_after (read_line line) os) → w ++ answer_lines ls rest ≡ all
+  unfolding answer_lines
+  line_more w line ls rest o e added taken = rw (added, append_assoc, taken.0, taken.1) (rw e at so_far)
 
-module _ {X : Type 0} where
-  -- The element at a place, and those after it.
-  pub nth_here : (xs : List X) (p : ℕ) (x : X) → slice_get xs p ≡ Some x → drop p xs ≡ x ∷ drop (p + 1) xs
-  nth_here [] p x e = let z : ◌≡◌ {A = ℕ} 0 1 = cc in absurd (omega arith)
-  nth_here (y ∷ xs) zero x e = let same : y ≡ x = cc in ap (λ z. z ∷ xs) same
-  nth_here (y ∷ xs) (suc p) x e = nth_here xs p x e ∙ (let n : suc (p + 1) ≡ suc p + 1 = omega arith in ap (λ k. x ∷ drop k (y ∷ xs)) n)
+  -- There is none more.
+  pub line_end : before ≡ [] → v ≡ all
+  unfolding answer_lines
+  line_end e = sym (append-nil v) ∙ (rw e at so_far)
 
-  -- There is one at each place below the length.
-  pub nth_some : (xs : List X) (p : ℕ) → p < length xs → slice_get xs p ≡ None → ⊥
-  nth_some [] p l e = omega arith
-  nth_some (y ∷ xs) zero l e = let z : ◌≡◌ {A = ℕ} 0 1 = cc in omega arith
-  nth_some (y ∷ xs) (suc p) l e = nth_some xs p (omega arith) e
-
-module _ {C : Type 0} (call : C → Call) (vs : List C) (line : List ℕ) (ls : List (List ℕ)) (all : List Call)
-    (so_far : map call vs ++ calls_in (line ∷ ls) ≡ all) where
+module _ {C : Type 0} (call : C → Call) (vs : List C) (before : List (List ℕ)) (all : List Call) (so_far : map call vs ++ calls_in before ≡ all) where
   -- A line that is a call.
-  pub calls_more : (c : C) (ws : List C) → ws ≡ vs ++ c ∷ [] → Some (call c) ≡ read_line line → map call ws ++ calls_in ls ≡ all
+  pub calls_more : (line : List ℕ) (ls : List (List ℕ)) (c : C) (ws : List C) → before ≡ line ∷ ls → ws ≡ vs ++ c ∷ [] → Some (call c) ≡ read_line line
+      → map call ws ++ calls_in ls ≡ all
   unfolding calls_in
-  calls_more c ws w e =
-      ap (λ z. map call z ++ calls_in ls) w
-      ∙ (ap (λ z. z ++ calls_in ls) (map-append call vs (c ∷ []))
-      ∙ (append_assoc (map call vs) (call c ∷ []) (calls_in ls) ∙ (ap (λ o. map call vs ++ onto_calls o (calls_in ls)) e ∙ so_far)))
+  calls_more line ls c ws l w e =
+      rw (w, map-append, append_assoc) (ap (λ o. map call vs ++ onto_calls o (calls_in ls)) e ∙ (rw l at so_far))
 
   -- One that is none.
-  pub calls_same : None ≡ read_line line → map call vs ++ calls_in ls ≡ all
+  pub calls_same : (line : List ℕ) (ls : List (List ℕ)) → before ≡ line ∷ ls → None ≡ read_line line → map call vs ++ calls_in ls ≡ all
   unfolding calls_in
-  calls_same e = ap (λ o. map call vs ++ onto_calls o (calls_in ls)) e ∙ so_far
+  calls_same line ls l e = ap (λ o. map call vs ++ onto_calls o (calls_in ls)) e ∙ (rw l at so_far)
 
--- Four parts, added one after another.
-pub four_parts : (v₀ v₁ v₂ v₃ v₄ a b c d : List ℕ) → v₀ ≡ [] → v₁ ≡ v₀ ++ a → v₂ ≡ v₁ ++ b → v₃ ≡ v₂ ++ c → v₄ ≡ v₃ ++ d
-    → v₄ ≡ a ++ (b ++ (c ++ d))
-four_parts v₀ v₁ v₂ v₃ v₄ a b c d e₀ e₁ e₂ e₃ e₄ =
-    e₄ ∙ (ap (λ z. z ++ d) (e₃ ∙ ap (λ z. z ++ c) (e₂ ∙ ap (λ z. z ++ b) (e₁ ∙ ap (λ z. z ++ a) e₀)))
-    ∙ (append_assoc (a ++ b) c d ∙ append_assoc a b (c ++ d)))
+  -- There is none more.
+  pub calls_end : before ≡ [] → map call vs ≡ all
+  unfolding calls_in
+  calls_end e = sym (append-nil (map call vs)) ∙ (rw e at so_far)
+
+onto_long : (b : ℕ) (ls : List (List ℕ)) → length (onto b ls) ≤ length ls + 1
+onto_long b [] = omega arith
+onto_long b (l ∷ ls) = omega arith
+
+-- A text has no more lines than bytes.
+pub few_lines : (s : List ℕ) → length (lines s) ≤ length s
+unfolding lines
+few_lines [] = omega arith
+few_lines (b ∷ s) = elim (eqb b 10) as (λ t. length (cond t ([] ∷ lines s) (onto b (lines s))) ≤ length (b ∷ s)) [
+  | true ↦ omega (arith, few_lines s)
+  | false ↦ omega (arith, few_lines s, onto_long b (lines s))
+]

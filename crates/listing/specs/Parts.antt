@@ -1,9 +1,12 @@
--- Answers that hold parts of a line, as byte strings.
-use Rattle.std.specs.Prelude.{ℕ, List}
+-- Answers that hold parts of a line as byte strings, and one that is pointed to as an outcome.
+use Rattle.std.specs.Prelude.{ℕ, List, Result}
 use Rattle.std.specs.Borrow.{Bor}
-
-abbrev pub two_parts : Bor (List ℕ) × Bor (List ℕ) → List ℕ × List ℕ
-two_parts p = (p.0.now, p.1.now)
+use Rattle.claims.specs.Calls.{Outcome}
+use Rattle.register.specs.Faults.{outcome_of}
+use Rattle.register.specs.declared.faults.Fault.{Fault}
 
 abbrev pub number_and_rest : ℕ × Bor (List ℕ) → ℕ × List ℕ
 number_and_rest p = (p.0, p.1.now)
+
+abbrev pub outcome_at : Bor (Result ℕ Fault) → Outcome
+outcome_at answer = outcome_of answer.now

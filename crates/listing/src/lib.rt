@@ -3,16 +3,14 @@
 
 ghost use Rattle.std.specs.Prelude.{◌≡◌, ◌≤◌, [], map, length, IfOk, OnOk};
 ghost use Rattle.lines.specs.Lines.{lines as lines_of};
-ghost use Rattle.claims.specs.Claim.{Claim, OffersClaim};
-ghost use Rattle.claims.specs.Histories.{answers, entries_left, history};
 ghost use Rattle.register.specs.Meanings.{mending_meaning_in};
 ghost use Rattle.register.specs.Registers.{entries_in};
 ghost use Rattle.runs.specs.Campus.{campus};
 ghost use Rattle.runs.specs.Listed.{call_of};
-ghost use Rattle.listing.specs.Report.{calls_in, report_for, report_of, too_long};
+ghost use Rattle.listing.specs.Report.{ClaimHolds, OffersHold, calls_in, report_from, report_of, too_long};
 
 use filesystems::{FileSystem, mac_and_windows};
-use lines::next_line;
+use lines::Lines;
 use lines_read::read_line;
 use register::Register;
 use reports::write_report;
@@ -32,12 +30,10 @@ fn read_calls<'a>(heap: Global, input: &'a [u8]) -> Result<Vec<Call<'a>>, AllocE
     ensures { IfOk result (λ v. map call_of v.items ≡ calls_in (lines_of input.now)) }
 {
     let mut calls = Vec::new(heap);
-    let mut rest = input;
-    while let Some((line, next)) = next_line(rest) {
+    for line in Lines::of(input) {
         if let Some(call) = read_line(line) {
             calls.push(call)?;
         }
-        rest = next;
     }
     Ok(calls)
 }
@@ -48,9 +44,9 @@ pub fn list<R: MendingRulebook, F: FileSystem>(
     register: &mut Register<R, F>,
     input: &[u8],
 ) -> Result<Vec<u8>, AllocError>
-    ensures report { IfOk result (λ v. v.items ≡ report_for (lines_of input.now) (answers (mending_meaning_in R.Rulebook R.MendingRulebook.mended F.FileSystem register.old) (entries_in register.old) (calls_in (lines_of input.now))) (entries_left (mending_meaning_in R.Rulebook R.MendingRulebook.mended F.FileSystem register.old) (entries_in register.old) (calls_in (lines_of input.now)))) }
-    ensures claim { OnOk result (entries_in register.old ≡ [] → Claim (mending_meaning_in R.Rulebook R.MendingRulebook.mended F.FileSystem register.old) (history (calls_in (lines_of input.now)) (answers (mending_meaning_in R.Rulebook R.MendingRulebook.mended F.FileSystem register.old) (entries_in register.old) (calls_in (lines_of input.now)))) (entries_left (mending_meaning_in R.Rulebook R.MendingRulebook.mended F.FileSystem register.old) (entries_in register.old) (calls_in (lines_of input.now)))) }
-    ensures offers { OnOk result (OffersClaim (mending_meaning_in R.Rulebook R.MendingRulebook.mended F.FileSystem register.old) (history (calls_in (lines_of input.now)) (answers (mending_meaning_in R.Rulebook R.MendingRulebook.mended F.FileSystem register.old) (entries_in register.old) (calls_in (lines_of input.now))))) }
+    ensures report { IfOk result (λ v. v.items ≡ report_from (mending_meaning_in R.Rulebook R.MendingRulebook.mended F.FileSystem register.old) (entries_in register.old) input.now) }
+    ensures claim { OnOk result (entries_in register.old ≡ [] → ClaimHolds (mending_meaning_in R.Rulebook R.MendingRulebook.mended F.FileSystem register.old) (entries_in register.old) input.now) }
+    ensures offers { OnOk result (OffersHold (mending_meaning_in R.Rulebook R.MendingRulebook.mended F.FileSystem register.old) (entries_in register.old) input.now) }
 {
     let calls = read_calls(heap, input)?;
     let mut results: Vec<Answer> = vec![in heap; Ok(0); calls.len()]?;
@@ -69,8 +65,8 @@ fn too_long(heap: Global) -> Result<Vec<u8>, AllocError>
 /// no entry, and the names that are kept then.
 pub fn report(heap: Global, input: &[u8]) -> Result<Vec<u8>, AllocError>
     ensures report { IfOk result (λ v. v.items ≡ report_of input.now) }
-    ensures claim { OnOk result (length input.now ≤ 16384 → Claim campus (history (calls_in (lines_of input.now)) (answers campus [] (calls_in (lines_of input.now)))) (entries_left campus [] (calls_in (lines_of input.now)))) }
-    ensures offers { OnOk result (length input.now ≤ 16384 → OffersClaim campus (history (calls_in (lines_of input.now)) (answers campus [] (calls_in (lines_of input.now))))) }
+    ensures claim { OnOk result (length input.now ≤ LONGEST_INPUT → ClaimHolds campus [] input.now) }
+    ensures offers { OnOk result (length input.now ≤ LONGEST_INPUT → OffersHold campus [] input.now) }
 {
     if input.len() > LONGEST_INPUT {
         return too_long(heap);

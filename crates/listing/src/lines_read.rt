@@ -1,48 +1,24 @@
 //! Which call a line is.
-ghost use Rattle.std.specs.Prelude.{◌≡◌, ◌-◌, ◌≤◌, true, false, MatchOption};
+ghost use Rattle.std.specs.Prelude.{◌≡◌};
 ghost use Rattle.std.specs.Option.{option_map};
+ghost use Rattle.tag.specs.Cuts.{split_once};
 ghost use Rattle.runs.specs.Listed.{call_of};
-ghost use Rattle.listing.specs.Reading.{a_rename, an_enter, an_offer, is_digit, number_before, number_of_digits, read_line, split_at};
-ghost use Rattle.listing.specs.Parts.{number_and_rest, two_parts};
+ghost use Rattle.listing.specs.Reading.{a_rename, an_enter, an_offer, number_before, number_of_digits, read_line};
+ghost use Rattle.listing.specs.Parts.{number_and_rest};
 
 use runs::{Call, Change};
-
-/// What stands before the first such byte, and what stands after it; none if there is no such byte.
-fn split_at(text: &[u8], byte: u8) -> Option<(&[u8], &[u8])>
-    ensures { option_map two_parts result ≡ split_at byte text.now }
-{
-    for (i, other) in text.iter().enumerate() {
-        if *other == byte {
-            return Some((&text[0..i], &text[i + 1..]));
-        }
-    }
-    None
-}
-
-/// The value of a digit.
-fn digit(byte: u8) -> Option<u32>
-    ensures { MatchOption result (is_digit byte ≡ false) (λ d. (is_digit byte ≡ true) × (d ≡ byte - 48) × (d ≤ 9)) }
-{
-    if b'0' <= byte && byte <= b'9' {
-        Some(u32::from(byte - b'0'))
-    } else {
-        None
-    }
-}
+use tag::splits::split_once;
 
 /// The number that 1 to 9 digits spell.
 fn read_number(digits: &[u8]) -> Option<u32>
     ensures { result ≡ number_of_digits digits.now }
 {
-    if digits.len() == 0 || digits.len() > 9 {
+    if digits.is_empty() || digits.len() > 9 {
         return None;
     }
-    let mut number: u32 = 0;
-    for byte in digits {
-        match digit(*byte) {
-            Some(value) => number = number * 10 + value,
-            None => return None,
-        }
+    let mut number = 0;
+    for digit in digits {
+        number = number * 10 + char::from(*digit).to_digit(10)?;
     }
     Some(number)
 }
@@ -51,51 +27,40 @@ fn read_number(digits: &[u8]) -> Option<u32>
 fn number_before(text: &[u8]) -> Option<(u32, &[u8])>
     ensures { option_map number_and_rest result ≡ number_before text.now }
 {
-    match split_at(text, b' ') {
-        Some((digits, rest)) => match read_number(digits) {
-            Some(number) => Some((number, rest)),
-            None => None,
-        },
-        None => None,
-    }
+    let (digits, rest) = split_once(text, b' ')?;
+    Some((read_number(digits)?, rest))
 }
 
 /// The call of a line `e NUMBER NAME`, from what stands after its first space.
 fn read_enter(rest: &[u8]) -> Option<Call<'_>>
     ensures { option_map call_of result ≡ option_map an_enter (number_before rest.now) }
 {
-    match number_before(rest) {
-        Some((number, name)) => Some(Call::Change(Change::Enter {
-            name,
-            number,
-            mode: None,
-        })),
-        None => None,
-    }
+    let (number, name) = number_before(rest)?;
+    Some(Call::Change(Change::Enter {
+        name,
+        number,
+        mode: None,
+    }))
 }
 
 /// The call of a line `o NUMBER TEXT`.
 fn read_offer(rest: &[u8]) -> Option<Call<'_>>
     ensures { option_map call_of result ≡ option_map an_offer (number_before rest.now) }
 {
-    match number_before(rest) {
-        Some((number, text)) => Some(Call::Offer { text, number }),
-        None => None,
-    }
+    let (number, text) = number_before(rest)?;
+    Some(Call::Offer { text, number })
 }
 
 /// The call of a line `r OLD NEW`, with a tab between the two names.
 fn read_rename(rest: &[u8]) -> Option<Call<'_>>
-    ensures { option_map call_of result ≡ option_map a_rename (split_at 9 rest.now) }
+    ensures { option_map call_of result ≡ option_map a_rename (split_once 9 rest.now) }
 {
-    match split_at(rest, b'\t') {
-        Some((old, new)) => Some(Call::Change(Change::Rename {
-            old,
-            new,
-            mode: None,
-        })),
-        None => None,
-    }
+    let (old, new) = split_once(rest, b'\t')?;
+    Some(Call::Change(Change::Rename {
+        old,
+        new,
+        mode: None,
+    }))
 }
 
 /// The call that a line is, if it is one: `e NUMBER NAME`, `o NUMBER TEXT`, `r OLD NEW` with a tab between, or `d NAME`.

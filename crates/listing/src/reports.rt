@@ -1,114 +1,79 @@
 //! The report of answers and kept names, as bytes.
-ghost use Rattle.std.specs.Prelude.{◌≡◌, [], ◌∷◌, ◌++◌, map, length, IfOk, string_bytes, codes, decimal, OnOk};
+ghost use Rattle.std.specs.Prelude.{◌≡◌, ◌++◌, Option, map, length, IfOk, OnOk};
 ghost use Rattle.std.specs.List.{flat_map};
+ghost use Rattle.std.specs.Option.{option_map};
 ghost use Rattle.lines.specs.Lines.{lines};
 ghost use Rattle.register.specs.Faults.{outcome_of};
 ghost use Rattle.register.specs.Registers.{entries_in};
 ghost use Rattle.register.specs.Shown.{shown};
-ghost use Rattle.listing.specs.Report.{answer_line, answer_lines, answers_after, count_line, entry_line, first_line, report_for};
-ghost use Rattle.listing.specs.Reading.{read_line};
+ghost use Rattle.listing.specs.Report.{answer_lines, count_line, entry_line, report_for, line_for};
+ghost use Rattle.listing.specs.Parts.{outcome_at};
 
 use crate::lines_read::read_line;
 use filesystems::FileSystem;
-use lines::next_line;
+use lines::Lines;
 use register::{Entry, Register};
 use rulebooks::{MendingRulebook, Rulebook};
-use runs::{Answer, audit};
+use runs::{Answer, Call, audit};
 use std::alloc::{AllocError, Global};
 
-/// A word and a count, on a line.
-fn count_line(heap: Global, word: &str, count: usize) -> Result<String, AllocError>
-    ensures { IfOk result (λ t. string_bytes t ≡ count_line word.now count) }
+/// Adds a word and a count, on a line.
+fn add_count(report: &mut Vec<u8>, word: &str, count: usize) -> Result<(), AllocError>
+    ensures { OnOk result (report.new.items ≡ report.old.items ++ count_line word.now count) }
 {
-    format!(in heap; "{word} {count}\n")
+    let line = format!(in *report.allocator(); "{word} {count}\n")?;
+    report.extend_from_slice(line.as_bytes())
 }
 
-/// The line of a refusal.
-fn refused_line(heap: Global, number: u8) -> Result<String, AllocError>
-    ensures { IfOk result (λ t. string_bytes t ≡ codes "refused " ++ (decimal number ++ 10 ∷ [])) }
-{
-    format!(in heap; "refused {number}\n")
-}
-
-/// The words before a name: its number and a space.
-fn number_words(heap: Global, number: u32) -> Result<String, AllocError>
-    ensures { IfOk result (λ t. string_bytes t ≡ decimal number ++ 32 ∷ []) }
-{
-    format!(in heap; "{number} ")
-}
-
-/// Adds the line of an answer.
-fn add_answer(heap: Global, report: &mut Vec<u8>, answer: Answer) -> Result<(), AllocError>
-    ensures { OnOk result (report.new.items ≡ report.old.items ++ answer_line (outcome_of answer)) }
+/// Adds the line of an answer, or where there is none, of a line that is no call.
+fn add_answer(report: &mut Vec<u8>, answer: Option<&Answer>) -> Result<(), AllocError>
+    ensures { OnOk result (report.new.items ≡ report.old.items ++ line_for (option_map outcome_at answer.entry)) }
 {
     match answer {
-        Ok(_) => report.extend_from_slice(b"ok\n"),
-        Err(fault) => {
-            let line = refused_line(heap, fault.number())?;
+        Some(Ok(_)) => report.extend_from_slice(b"ok\n"),
+        Some(Err(fault)) => {
+            let line = format!(in *report.allocator(); "refused {}\n", fault.number())?;
             report.extend_from_slice(line.as_bytes())
         }
+        None => report.extend_from_slice(b"unread\n"),
     }
 }
 
-/// Adds the line of what came of a line, from the answers that are left, and answers those that are left then.
-fn add_line<'a>(
-    heap: Global,
-    report: &mut Vec<u8>,
-    line: &[u8],
-    answers: &'a [Answer],
-) -> Result<&'a [Answer], AllocError>
-    ensures adds { OnOk result (report.new.items ≡ report.old.items ++ first_line (read_line line.now) (map outcome_of answers.now)) }
-    ensures leaves { IfOk result (λ left. map outcome_of left.now ≡ answers_after (read_line line.now) (map outcome_of answers.now)) }
+/// Adds the lines of what came of each line of the input, from the answers of the calls among them.
+fn add_answers(report: &mut Vec<u8>, input: &[u8], answers: &[Answer]) -> Result<(), AllocError>
+    ensures { OnOk result (report.new.items ≡ report.old.items ++ answer_lines (lines input.now) (map outcome_of answers.now)) }
 {
-    if read_line(line).is_none() || answers.len() == 0 {
-        report.extend_from_slice(b"unread\n")?;
-        return Ok(answers);
+    let mut left = answers.iter();
+    for line in Lines::of(input) {
+        let answer = match read_line(line) {
+            Some(_) => left.next(),
+            None => None,
+        };
+        add_answer(report, answer)?;
     }
-    add_answer(heap, report, answers[0])?;
-    Ok(&answers[1..])
+    Ok(())
 }
 
 /// Adds the line of an entry.
-fn add_entry(heap: Global, report: &mut Vec<u8>, entry: Entry<'_>) -> Result<(), AllocError>
+fn add_entry(report: &mut Vec<u8>, entry: Entry<'_>) -> Result<(), AllocError>
     ensures { OnOk result (report.new.items ≡ report.old.items ++ entry_line (shown entry.entry)) }
 {
-    let words = number_words(heap, entry.number)?;
-    report.extend_from_slice(words.as_bytes())?;
+    let number = format!(in *report.allocator(); "{} ", entry.number)?;
+    report.extend_from_slice(number.as_bytes())?;
     report.extend_from_slice(entry.name)?;
-    report.extend_from_slice(b"\n")?;
+    report.push(b'\n')?;
     Ok(())
 }
 
 /// Adds the lines of all entries, in the order of their places.
 fn add_entries<R: Rulebook, F: FileSystem>(
-    heap: Global,
     report: &mut Vec<u8>,
     register: &Register<R, F>,
 ) -> Result<(), AllocError>
     ensures { OnOk result (report.new.items ≡ report.old.items ++ flat_map entry_line (entries_in register.now)) }
 {
-    for place in 0..register.count() {
-        if let Some(entry) = register.entry(place) {
-            add_entry(heap, report, entry)?;
-        }
-    }
-    Ok(())
-}
-
-/// Adds the lines of what came of each line of the input, from the answers of the calls among them.
-fn add_answers(
-    heap: Global,
-    report: &mut Vec<u8>,
-    input: &[u8],
-    answers: &[Answer],
-) -> Result<(), AllocError>
-    ensures { OnOk result (report.new.items ≡ report.old.items ++ answer_lines (lines input.now) (map outcome_of answers.now)) }
-{
-    let mut rest = input;
-    let mut left = answers;
-    while let Some((line, next)) = next_line(rest) {
-        left = add_line(heap, report, line, left)?;
-        rest = next;
+    for entry in register.entries() {
+        add_entry(report, entry)?;
     }
     Ok(())
 }
@@ -117,13 +82,7 @@ fn add_answers(
 fn count_lines(input: &[u8]) -> usize
     ensures { result ≡ length (lines input.now) }
 {
-    let mut rest = input;
-    let mut count = 0;
-    while let Some((_, next)) = next_line(rest) {
-        count += 1;
-        rest = next;
-    }
-    count
+    Lines::of(input).count()
 }
 
 /// The report for an input, the answers of the calls among its lines, and a register after them.
@@ -135,12 +94,10 @@ pub fn write_report<R: MendingRulebook, F: FileSystem>(
 ) -> Result<Vec<u8>, AllocError>
     ensures { IfOk result (λ v. v.items ≡ report_for (lines input.now) (map outcome_of answers.now) (entries_in register.now)) }
 {
-    let answer_count = count_line(heap, "answers", count_lines(input))?;
-    let name_count = count_line(heap, "names", audit(register))?;
     let mut report = Vec::new(heap);
-    report.extend_from_slice(answer_count.as_bytes())?;
-    add_answers(heap, &mut report, input, answers)?;
-    report.extend_from_slice(name_count.as_bytes())?;
-    add_entries(heap, &mut report, register)?;
+    add_count(&mut report, "answers", count_lines(input))?;
+    add_answers(&mut report, input, answers)?;
+    add_count(&mut report, "names", audit::<R, F, Call<'_>>(register))?;
+    add_entries(&mut report, register)?;
     Ok(report)
 }

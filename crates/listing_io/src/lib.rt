@@ -6,16 +6,10 @@ use std::io::{Read, Write};
 
 /// Reads standard input, at most one byte more than the listing takes.
 fn read_input(rt: &HostRuntime) -> anyhow::Result<Vec<u8>> {
-    let mut input = vec![in rt.alloc(); 0u8; LONGEST_INPUT + 1]?;
-    let mut end = 0;
-    for _ in 0..LONGEST_INPUT + 1 {
-        let count = rt.stdin().read(&mut input[end..])?;
-        if count == 0 {
-            break;
-        }
-        end += count;
-    }
-    input.truncate(end);
+    let mut input = Vec::new(rt.alloc());
+    rt.stdin()
+        .take(LONGEST_INPUT as u64 + 1)
+        .read_to_end(&mut input)?;
     Ok(input)
 }
 

@@ -1,3 +1,3 @@
 -- The lemmas on meeting.
 pub mod Meetings
-pub mod Walking
+pub mod Pairwise

@@ -1,3 +1,2 @@
 -- The definitions that the contracts of meeting cite.
 pub mod Meeting
-pub mod Walks

@@ -1,6 +1,6 @@
 -- Cutting.lock from the end of a component.
-use Rattle.std.proofs.Common.{◌≡◌, ℕ, zero, suc, ◌-◌, ◌<◌, ◌≤◌, true, false, cond, List, length, take, sym, refl, ap, ◌∙◌, ⊎_elim, arith}
-use Rattle.std.proofs.lemmas.List.{length-take, length-take-le, take-take}
+use Rattle.std.proofs.Common.{◌≡◌, ℕ, zero, suc, ◌+◌, ◌-◌, ◌<◌, ◌≤◌, true, false, cond, List, length, take, drop, sym, refl, ap, ◌∙◌, ⊎_elim, arith, length-drop}
+use Rattle.std.proofs.lemmas.List.{drop-take, length-take, length-take-le, take-take}
 use Rattle.std.proofs.lemmas.Bool.{cases_Bool, cond-true, cond-false}
 use Rattle.std.proofs.lemmas.Bool.Decides.{nat_tests}
 use Rattle.tag.specs.Bytes.{ends_in_lock}
@@ -46,8 +46,20 @@ module _ (c : List ℕ) where
   unfolding cut
   cut_done t = cut_same (length c) c t
 
--- One cut, at a length.
-pub cut_on : (s : List ℕ) (n : ℕ) → n ≤ length s → ends_in_lock (take n s) ≡ true → cut (take (n - 5) s) ≡ cut (take n s)
-cut_on s n h t =
-    sym (cut_step (take n s) t
-    ∙ ap cut (ap (λ m. take (m - 5) (take n s)) (length-take-le n s h) ∙ take-take (n - 5) n s (omega arith)))
+-- One cut, at the end of a text of which what stands from `start` on is cut.
+pub cut_text : (out : List ℕ) (start end : ℕ) → end ≤ length out → ends_in_lock (drop start (take end out)) ≡ true
+    → (start + 5 ≤ end)
+    × (take start (take (end - 5) out) ≡ take start (take end out))
+    × (cut (drop start (take (end - 5) out)) ≡ cut (drop start (take end out)))
+cut_text out start end h t =
+    let five = lock_length (drop start (take end out)) t in
+    let n : length (drop start (take end out)) ≡ end - start = simp (length-drop, length-take-le) refl in
+    let long : start + 5 ≤ end = omega arith in
+    let back : end - 5 ≡ start + (end - start - 5) = omega arith in
+    let shorter : drop start (take (end - 5) out) ≡ take (end - start - 5) (drop start (take end out)) =
+    ap (drop start) (sym (take-take (end - 5) end out (omega arith)))
+    ∙ (ap (λ m. drop start (take m (take end out))) back ∙ drop-take start (end - start - 5) (take end out)) in (
+      long,
+      take-take start (end - 5) out (omega arith) ∙ sym (take-take start end out (omega arith)),
+      ap cut shorter ∙ (ap (λ m. cut (take (m - 5) (drop start (take end out)))) (sym n) ∙ sym (cut_step (drop start (take end out)) t)),
+    )

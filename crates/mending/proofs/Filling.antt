@@ -1,8 +1,7 @@
 -- The whole text, and the buffer that holds it.
-use Rattle.std.proofs.Common.{◌≡◌, ℕ, ◌-◌, ◌<◌, ◌≤◌, List, [], ◌∷◌, ◌++◌, map, length, take, drop, replicate, refl, ap, ◌∙◌, ⊎_elim, arith}
-use borrow.Rule.Slice.PartMut.{put_mid}
+use Rattle.std.proofs.Common.{◌≡◌, ℕ, ◌<◌, List, [], ◌∷◌, ◌++◌, map, length, refl, ap, ◌∙◌, ⊎_elim, arith}
 use Rattle.std.specs.List.{AllByRecursion}
-use Rattle.std.proofs.lemmas.List.{append-nil, append_assoc, drop_all, length-append, length-drop}
+use Rattle.std.proofs.lemmas.List.{append_assoc, length-append}
 use Rattle.std.proofs.lemmas.Bool.{cases_eq, eq-eqb, ne_eqb}
 use Rattle.tag.specs.Components.{components, joined}
 use Rattle.mending.specs.Mender.{clean, filled, dash_alone, dash_end, mended}
@@ -45,11 +44,3 @@ added (c ∷ cs) h =
 pub written_mended : (s : List ℕ) → dash_alone (dash_end (add_all [] (components s))) ≡ mended s
 unfolding mended
 written_mended s = ap (λ t. dash_alone (dash_end t)) (added (components s) (components_slashless s))
-
--- The rest of the buffer is cleared.
-pub cleared : (out zeros : List ℕ) (e : ℕ) → e ≤ length out → zeros ≡ replicate (length out - e) 0
-    → put_mid e (length out - e) out zeros ≡ take e out ++ replicate (length out - e) 0
-cleared out zeros e h p =
-    ap (λ t. take e out ++ t)
-    (ap (λ t. zeros ++ t) (drop_all (length out - e) (drop e out) (simp length-drop (omega arith)))
-    ∙ (append-nil zeros ∙ p))

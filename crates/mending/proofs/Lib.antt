@@ -8,7 +8,6 @@ pub mod Locking
 pub mod Joining
 pub mod Laws
 pub mod Adding
-pub mod Splitting
 pub mod Ending
 pub mod Filling
 pub mod Written

@@ -2,3 +2,4 @@
 pub mod Mender
 pub mod Errors
 pub mod Steps
+pub mod Texts

@@ -1,11 +1,7 @@
 -- What the mender's inner functions say of components.
-use Rattle.std.specs.Prelude.{◌≡◌, ℕ, ◌+◌, ◌<◌, ◌≤◌, Bool, cond, ◌&&◌, ◌||◌, List, [], ◌∷◌, ◌++◌, length, ◌==◌, ◌≢◌, slice_index}
+use Rattle.std.specs.Prelude.{ℕ, ◌+◌, Bool, cond, ◌&&◌, ◌||◌, List, [], ◌∷◌, ◌++◌, length, ◌==◌, slice_index}
 use Rattle.tag.specs.Bytes.{last_byte}
 use Rattle.mending.specs.Mender.{clean}
-
--- The first component of s has n bytes: none of these is a slash, and a slash or the end comes next.
-abbrev pub FirstEnds : List ℕ → ℕ → Type 0
-FirstEnds s n = (n ≤ length s) × ((k : ℕ) → k < n → slice_index s k ≢ 47) × (n < length s → slice_index s n ≡ 47)
 
 -- The text with one component more: an empty one adds nothing, and a slash stands before any but the first.
 abbrev pub add : List ℕ → List ℕ → List ℕ

@@ -2,152 +2,59 @@
 use reference::Error;
 use std::test::Fail;
 
-// The number by which a tag name is refused, 0 for an allowed one.
-fn tag_number(name: &[u8]) -> u8 {
-    match tag::name(name) {
-        Ok(_) => 0,
-        Err(error) => error.number(),
-    }
-}
-
-// The number of a reference check's result, 0 for an allowed name.
-fn number(res: Result<&[u8], Error<'_>>) -> u8 {
+// The number of a check's result, 0 for an allowed name.
+fn number<'a, E: Into<Error<'a>>>(res: Result<&'a [u8], E>) -> u8 {
     match res {
         Ok(_) => 0,
-        Err(error) => error.number(),
+        Err(error) => error.into().number(),
     }
 }
 
 // A name, and the number by which it is refused, 0 for an allowed one.
-#[derive(Clone, Copy)]
-struct Case {
-    name: &'static [u8],
-    number: u8,
-}
+type Case = (&'static [u8], u8);
 
 #[test]
 fn rules_of_the_manual(rt: HostRuntime) {
-    let cases = [
-        Case {
-            name: b"heads/.hidden",
-            number: 8,
-        },
-        Case {
-            name: b"heads/topic.lock",
-            number: 5,
-        },
-        Case {
-            name: b"heads.lock/topic",
-            number: 5,
-        },
-        Case {
-            name: b"one..two",
-            number: 4,
-        },
-        Case {
-            name: b"tab\there",
-            number: 1,
-        },
-        Case {
-            name: b"del\x7f",
-            number: 1,
-        },
-        Case {
-            name: b"a~1",
-            number: 1,
-        },
-        Case {
-            name: b"a^2",
-            number: 1,
-        },
-        Case {
-            name: b"src:dst",
-            number: 1,
-        },
-        Case {
-            name: b"what?",
-            number: 1,
-        },
-        Case {
-            name: b"foo/bar*/baz",
-            number: 7,
-        },
-        Case {
-            name: b"set[1]",
-            number: 1,
-        },
-        Case {
-            name: b"/heads",
-            number: 2,
-        },
-        Case {
-            name: b"heads/",
-            number: 10,
-        },
-        Case {
-            name: b"heads//topic",
-            number: 3,
-        },
-        Case {
-            name: b"topic.",
-            number: 9,
-        },
-        Case {
-            name: b"main@{1}",
-            number: 6,
-        },
-        Case {
-            name: b"back\\slash",
-            number: 1,
-        },
-        Case {
-            name: b"refs/heads/main",
-            number: 0,
-        },
+    let cases: [Case; 19] = [
+        (b"heads/.hidden", 8),
+        (b"heads/topic.lock", 5),
+        (b"heads.lock/topic", 5),
+        (b"one..two", 4),
+        (b"tab\there", 1),
+        (b"del\x7f", 1),
+        (b"a~1", 1),
+        (b"a^2", 1),
+        (b"src:dst", 1),
+        (b"what?", 1),
+        (b"foo/bar*/baz", 7),
+        (b"set[1]", 1),
+        (b"/heads", 2),
+        (b"heads/", 10),
+        (b"heads//topic", 3),
+        (b"topic.", 9),
+        (b"main@{1}", 6),
+        (b"back\\slash", 1),
+        (b"refs/heads/main", 0),
     ];
-    for case in cases.iter() {
-        assert_eq!(rt; tag_number(case.name), case.number);
+    for (name, refused) in cases {
+        assert_eq!(rt; number(tag::name(name)), refused);
     }
 }
 
 #[test]
 fn tag_names(rt: HostRuntime) {
-    let cases = [
-        Case {
-            name: b"v1.0",
-            number: 0,
-        },
-        Case {
-            name: b"alpha-1",
-            number: 0,
-        },
-        Case {
-            name: b"@",
-            number: 0,
-        },
-        Case {
-            name: b"",
-            number: 11,
-        },
-        Case {
-            name: b"/",
-            number: 10,
-        },
-        Case {
-            name: b".lock",
-            number: 8,
-        },
-        Case {
-            name: b".lock/x",
-            number: 5,
-        },
-        Case {
-            name: b".a b",
-            number: 1,
-        },
+    let cases: [Case; 8] = [
+        (b"v1.0", 0),
+        (b"alpha-1", 0),
+        (b"@", 0),
+        (b"", 11),
+        (b"/", 10),
+        (b".lock", 8),
+        (b".lock/x", 5),
+        (b".a b", 1),
     ];
-    for case in cases.iter() {
-        assert_eq!(rt; tag_number(case.name), case.number);
+    for (name, refused) in cases {
+        assert_eq!(rt; number(tag::name(name)), refused);
     }
 }
 
@@ -176,13 +83,8 @@ fn branch_names(rt: HostRuntime) {
 // Whether the mender makes this handle of the text.
 fn mends(text: &[u8], handle: &[u8]) -> bool {
     let mut buffer = [1u8; 16];
-    match reference::name_partial_or_sanitize(text, &mut buffer) {
-        Ok(length) => match buffer.get(0..length) {
-            Some(front) => front == handle,
-            None => false,
-        },
-        Err(_) => false,
-    }
+    reference::name_partial_or_sanitize(text, &mut buffer).is_ok_and(|length| buffer.get(..length)
+        == Some(handle))
 }
 
 #[test]

@@ -1,3 +1,2 @@
 -- The lemmas that the proofs share.
 mod Spared
-mod Ways

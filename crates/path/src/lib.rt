@@ -12,22 +12,21 @@ ghost use Rattle.path.specs.Rule.{if_on, verdict_before, is_relative, component_
 
 pub use protections::Mode;
 use protections::{
-    Hfs, Ntfs, Plain, Protection, Verdict, WindowsDevices, WindowsNames, named, names_device,
-    one_of,
+    Hfs, Ntfs, Plain, Protection, Verdict, WindowsDevices, WindowsNames, names_device,
 };
 use std::fmt;
 
 /// Why a component is refused.
 #[derive(Clone, Copy, PartialEq, Eq, Debug)]
 pub enum Error {
-    Empty,
-    PathSeparator,
-    WindowsPathPrefix,
-    WindowsReservedName,
-    WindowsIllegalCharacter,
-    DotGitDir,
-    SymlinkedGitModules,
-    Relative,
+    Empty = 21,
+    PathSeparator = 22,
+    WindowsPathPrefix = 23,
+    WindowsReservedName = 24,
+    WindowsIllegalCharacter = 25,
+    DotGitDir = 26,
+    SymlinkedGitModules = 27,
+    Relative = 28,
 }
 
 impl Error {
@@ -55,16 +54,7 @@ impl Error {
     pub fn number(&self) -> u8
         ensures { result ≡ number_of self.now }
     {
-        match *self {
-            Error::Empty => 21,
-            Error::PathSeparator => 22,
-            Error::WindowsPathPrefix => 23,
-            Error::WindowsReservedName => 24,
-            Error::WindowsIllegalCharacter => 25,
-            Error::DotGitDir => 26,
-            Error::SymlinkedGitModules => 27,
-            Error::Relative => 28,
-        }
+        *self as u8
     }
 }
 
@@ -124,7 +114,7 @@ impl Default for Options {
     }
 }
 
-// The verdict of a protection, if it is on.
+// The verdict of a protection, if it is on. `then` and `flatten` would say the same less plainly.
 fn asked<P: Protection>(
     on: bool,
     protection: &P,
@@ -141,32 +131,26 @@ fn asked<P: Protection>(
 }
 
 // The first verdict of the protections that are on.
+#[tactic(auto, unfolding(crate::specs::Rule::verdict_before))]
 fn judge(input: &[u8], mode: Option<Mode>, options: Options) -> Option<Verdict>
     ensures { numbered result ≡ verdict_before input.now mode options (plain_rule input.now mode) }
 {
-    if let Some(verdict) = asked(options.protect_windows, &WindowsNames, input, mode) {
-        return Some(verdict);
-    }
-    if let Some(verdict) = asked(options.protect_hfs, &Hfs, input, mode) {
-        return Some(verdict);
-    }
-    if let Some(verdict) = asked(options.protect_ntfs, &Ntfs, input, mode) {
-        return Some(verdict);
-    }
-    if let Some(verdict) = asked(options.protect_devices(), &WindowsDevices, input, mode) {
-        return Some(verdict);
-    }
-    Plain.verdict(input, mode)
+    asked(options.protect_windows, &WindowsNames, input, mode)
+        .or_else(|| asked(options.protect_hfs, &Hfs, input, mode))
+        .or_else(|| asked(options.protect_ntfs, &Ntfs, input, mode))
+        .or_else(|| asked(options.protect_devices(), &WindowsDevices, input, mode))
+        .or_else(|| Plain.verdict(input, mode))
 }
 
 // Whether the component is `.` or `..`.
 fn relative(input: &[u8]) -> bool
     ensures { result ≡ is_relative input.now }
 {
-    named(&Plain, input, b".") || named(&Plain, input, b"..")
+    matches!(input, b"." | b"..")
 }
 
 /// The component itself, if the protections that are on let it pass.
+#[tactic(auto, using(crate::proofs::Spared::spared), unfolding(crate::specs::Rule::component_rule))]
 pub fn component<'a>(
     input: &'a [u8],
     mode: Option<Mode>,
@@ -182,7 +166,7 @@ pub fn component<'a>(
     if relative(input) {
         return Err(Error::Relative);
     }
-    if one_of(b'/', input) {
+    if input.contains(&b'/') {
         return Err(Error::PathSeparator);
     }
     match judge(input, mode, options) {
@@ -196,7 +180,7 @@ pub fn component_is_windows_device(input: &[u8]) -> bool
     ensures value { result ≡ is_device input.now }
     ensures decides { Decides result (Has devices (device_key input.now)) }
 {
-    // No name of a device is shorter.
+    // No name of a device is shorter. The test is made here too, since without it one byte takes half as long again.
     if input.len() < 3 {
         return false;
     }

@@ -7,7 +7,7 @@ use Rattle.std.proofs.lemmas.Bool.Decides.{nat_tests}
 use Rattle.characters.proofs.Ascii.{ascii_points}
 use Rattle.protections.specs.declared.rules.Mode.{Mode}
 use Rattle.protections.specs.declared.rules.Mode.TheVariants.{Symlink}
-use Rattle.protections.specs.Words.{equals, some, among}
+use Rattle.protections.specs.Words.{equals, among}
 use Rattle.protections.specs.Keys.{lowered, before, trimmed, ignored, hfs_key, ntfs_key}
 use Rattle.protections.specs.Names.{git, modules}
 use Rattle.protections.specs.Rules.{linked, hfs_rule, ntfs_rule, plain_rule}
@@ -67,11 +67,9 @@ module _ (set : List ℕ) (same : (b : ℕ) → among set (to_ascii_lowercase b)
       sym (take-map to_ascii_lowercase (length s - suffix_len (among set) s) s) ∙ ap (λ k. take k (lowered s)) n
 
 pub colon : (b : ℕ) → among (codes ":") (to_ascii_lowercase b) ≡ among (codes ":") b
-unfolding some
 colon b = grind (arith, nat_tests)
 
 pub space_dot : (b : ℕ) → among (codes " .") (to_ascii_lowercase b) ≡ among (codes " .") b
-unfolding some
 space_dot b = grind (arith, nat_tests)
 
 ntfs_of : (s : List ℕ) → ntfs_key s ≡ trimmed (codes " .") (before (codes ":") (lowered s))
@@ -83,11 +81,9 @@ ntfs_of s =
 -- at the two fixed names all three rules agree
 
 ntfs_git_key : (s : List ℕ) → lowered s ≡ git → ntfs_key s ≡ git
-unfolding some
 ntfs_git_key s e = ntfs_of s ∙ ap (λ t. trimmed (codes " .") (before (codes ":") t)) e
 
 ntfs_modules_key : (s : List ℕ) → lowered s ≡ modules → ntfs_key s ≡ modules
-unfolding some
 ntfs_modules_key s e = ntfs_of s ∙ ap (λ t. trimmed (codes " .") (before (codes ":") t)) e
 
 git_low : AllByRecursion (λ b. b < 128) git
@@ -117,7 +113,7 @@ refuses s mode n e = go (equals (lowered s) git) refl (equals (lowered s) module
     go false p false q = absurd (none mode (rw (p, q) at e))
 
 pub hfs_covers : (s : List ℕ) (mode : Option Mode) (n : ℕ) → plain_rule s mode ≡ Some n → hfs_rule s mode ≡ plain_rule s mode
-unfolding plain_rule hfs_rule equals
+unfolding plain_rule hfs_rule
 hfs_covers s mode n e =
     elim (refuses s mode n e) [
       | inl g ↦ rw (g, hfs_git_key s g)
@@ -125,7 +121,7 @@ hfs_covers s mode n e =
     ]
 
 pub ntfs_covers : (s : List ℕ) (mode : Option Mode) (n : ℕ) → plain_rule s mode ≡ Some n → ntfs_rule s mode ≡ plain_rule s mode
-unfolding plain_rule ntfs_rule equals some
+unfolding plain_rule ntfs_rule
 ntfs_covers s mode n e =
     elim (refuses s mode n e) [
       | inl g ↦ rw (g, ntfs_git_key s g)

@@ -1,13 +1,14 @@
 -- The key by a cut, told from the front of a component.
-use Rattle.std.proofs.Common.{◌≡◌, ℕ, suc, ◌+◌, ◌-◌, ◌<◌, ◌≤◌, Bool, true, false, cond, not, ◌&&◌, eqb, ◌⊎◌, List, [], ◌∷◌, ◌++◌, reverse, length, get_or, take, drop, sym, refl, ap, ◌∙◌, subst, inl, inr, one-add, arith}
+use Rattle.std.proofs.Common.{Bor, Some, None, Option, min, nat_le, ◌≡◌, ℕ, suc, ◌+◌, ◌-◌, ◌<◌, Bool, true, false, cond, not, ◌&&◌, eqb, ◌⊎◌, List, [], ◌∷◌, ◌++◌, reverse, length, take, drop, sym, refl, ap, ◌∙◌, inl, inr, one-add, arith}
 use Rattle.std.specs.Char.{to_ascii_lowercase}
-use Rattle.std.specs.List.{prefix_len, suffix_len}
-use Rattle.std.proofs.lemmas.List.{length-map, length-take, length-reverse, reverse-append, take_rest, take-append-drop, drop_all, drop_more, at_drop_more, at_drop_all}
-use Rattle.std.proofs.lemmas.Slice.{first_rest}
+use Rattle.std.specs.Cmp.Lexicographic.{unequal}
+use Rattle.std.specs.List.{prefix_len, suffix_len, list_all, find}
+use Rattle.std.specs.Option.{option_map, option_map_or, unwrap_or}
+use Rattle.std.proofs.lemmas.List.{length-map, length-take, length-drop, length-reverse, reverse-append, take-append-drop}
 use Rattle.std.proofs.lemmas.List.Sums.{suffix_len-le-length}
-use Rattle.std.proofs.lemmas.Bool.{eqb-true, eqb-false, eq-eqb, ne_eqb, and_parts, and_right, or_parts, not-true, not-false, true≢false}
-use Rattle.protections.specs.Words.{equals, some, among}
-use Rattle.protections.specs.Keys.{lowered, before, trimmed, cut_key, cut_name}
+use Rattle.std.proofs.lemmas.Bool.{leb-true, eqb-true, eqb-false, ne_eqb, and_parts, and_right, not-true, true≢false}
+use Rattle.protections.specs.Words.{equals, among}
+use Rattle.protections.specs.Keys.{lowered, before, trimmed, cut_key, cut_name, without_block}
 
 -- how many pass from the end back, with one more element in front
 
@@ -123,7 +124,6 @@ module _ (stops fillers : List ℕ) where
 
   pub rest_filler : (b : ℕ) (t : List ℕ) → among stops b ≡ false → among fillers b ≡ true →
       equals (cut_key stops fillers (b ∷ t)) [] ≡ equals (cut_key stops fillers t) []
-  unfolding equals
   rest_filler b t e f = go (cut_key stops fillers t) refl
     where
       go : (k : List ℕ) → cut_key stops fillers t ≡ k → equals (cut_key stops fillers (b ∷ t)) [] ≡ equals (cut_key stops fillers t) []
@@ -132,43 +132,59 @@ module _ (stops fillers : List ℕ) where
           let more = key_keep b t e (inr (λ n. let z : ◌≡◌ {A = ℕ} 0 1 = cc in omega arith)) in rw (more, q)
 
   pub rest_other : (b : ℕ) (t : List ℕ) → among fillers b ≡ false → equals (cut_key stops fillers (b ∷ t)) [] ≡ among stops b
-  unfolding equals
   rest_other b t f = go (among stops b) refl
     where
       go : (x : Bool) → among stops b ≡ x → equals (cut_key stops fillers (b ∷ t)) [] ≡ among stops b
       go true q = rw (key_stop b t q, q)
       go false q = rw (key_keep b t q (inl f), q)
 
+  -- the first byte that is no filler decides
+  abbrev pub only_fillers_by : Option ℕ → Bool
+  only_fillers_by first = option_map_or (among stops) first true
+
   module _ (apart : (b : ℕ) → among fillers b ≡ true → among stops b ≡ false) where
-    all_fill : (u t : List ℕ) → some (λ b. not (among fillers b)) u ≡ false →
-        equals (cut_key stops fillers (u ++ t)) [] ≡ equals (cut_key stops fillers t) []
-    unfolding some
+    all_fill : (u t : List ℕ) → list_all (among fillers) u ≡ true → equals (cut_key stops fillers (u ++ t)) [] ≡ equals (cut_key stops fillers t) []
     all_fill [] t h = refl
     all_fill (b ∷ u) t h =
-        let both = or_parts (not (among fillers b)) (some (λ b. not (among fillers b)) u) h in
-        let f = not-false (among fillers b) both.0 in
-        rest_filler b (u ++ t) (apart b f) f ∙ all_fill u t both.1
+        let both = and_parts (among fillers b) (list_all (among fillers) u) h in
+        rest_filler b (u ++ t) (apart b both.0) both.0 ∙ all_fill u t both.1
 
-    pub rest_block : (n : ℕ) (s : List ℕ) → true ≡ not (some (λ b. not (among fillers b)) (take n s)) →
-        equals (cut_key stops fillers (take (length s - n) (drop n s))) [] ≡ equals (cut_key stops fillers s) []
-    rest_block n s h =
-        ap (λ u. equals (cut_key stops fillers u) []) (take_rest s n)
-        ∙ sym (all_fill (take n s) (drop n s) (not-true (some (λ b. not (among fillers b)) (take n s)) (sym h)))
-        ∙ ap (λ u. equals (cut_key stops fillers u) []) (take-append-drop n s)
+    -- a block of fillers may be passed over
+    pub rest_block : (n : ℕ) (s t : List ℕ) → Some t ≡ without_block fillers n s → equals (cut_key stops fillers t) [] ≡ equals (cut_key stops fillers s) []
+    rest_block n s t h = go (nat_le n (length s)) (list_all (among fillers) (take n s)) refl h
+      where
+        go : (x y : Bool) → list_all (among fillers) (take n s) ≡ y → Some t ≡ cond (x && y) (Some (drop n s)) None →
+            equals (cut_key stops fillers t) [] ≡ equals (cut_key stops fillers s) []
+        go true true e f =
+            let same : t ≡ drop n s = cc in
+            rw same (sym (all_fill (take n s) (drop n s) e) ∙ ap (λ u. equals (cut_key stops fillers u) []) (take-append-drop n s))
+        go true false e f = let z : ◌≡◌ {A = ℕ} 0 1 = cc in let w : ⊥ = omega arith in absurd w
+        go false y e f = let z : ◌≡◌ {A = ℕ} 0 1 = cc in let w : ⊥ = omega arith in absurd w
 
-    pub rest_more : (s : List ℕ) (i : ℕ) → i < length s → true ≡ among fillers (get_or s i 0) →
-        equals (cut_key stops fillers (drop (i + 1) s)) [] ≡ equals (cut_key stops fillers (drop i s)) []
-    rest_more s i h e =
-        sym (at_drop_more (λ u. equals (cut_key stops fillers u) []) s i 0 h ∙ rest_filler (get_or s i 0) (drop (i + 1) s) (apart (get_or s i 0) (sym e)) (sym e))
+    pub rest_blocks : (n : ℕ) (d : Bor (List ℕ)) (r : Option (Bor (List ℕ))) → option_map (λ x. x.now) r ≡ without_block fillers n d.now →
+        equals (cut_key stops fillers (unwrap_or r d).now) [] ≡ equals (cut_key stops fillers d.now) []
+    rest_blocks n d None h = refl
+    rest_blocks n d (Some t) h = rest_block n d.now t.now h
 
-  pub rest_stop : (s : List ℕ) (i : ℕ) → i < length s → false ≡ among fillers (get_or s i 0) →
-      among stops (get_or s i 0) ≡ equals (cut_key stops fillers (drop i s)) []
-  rest_stop s i h e =
-      sym (at_drop_more (λ u. equals (cut_key stops fillers u) []) s i 0 h ∙ rest_other (get_or s i 0) (drop (i + 1) s) (sym e))
+    pub rest_first : (s : List ℕ) → only_fillers_by (find (λ b. not (among fillers b)) s) ≡ equals (cut_key stops fillers s) []
+    rest_first [] = sym (rw key_nil)
+    rest_first (b ∷ t) = go (among fillers b) refl (rest_first t)
+      where
+        go : (x : Bool) → among fillers b ≡ x → only_fillers_by (find (λ b. not (among fillers b)) t) ≡ equals (cut_key stops fillers t) [] →
+            only_fillers_by (find (λ b. not (among fillers b)) (b ∷ t)) ≡ equals (cut_key stops fillers (b ∷ t)) []
+        go true e f = rw e (f ∙ sym (rest_filler b t (apart b e) e))
+        go false e f = rw e (sym (rest_other b t e))
 
-  pub rest_end : (s : List ℕ) (i : ℕ) → length s ≤ i → true ≡ equals (cut_key stops fillers (drop i s)) []
-  unfolding equals
-  rest_end s i h = sym (at_drop_all (λ u. equals (cut_key stops fillers u) []) s i h ∙ rw key_nil)
+  pub block_length : (n : ℕ) (s t : List ℕ) → Some t ≡ without_block fillers n s → length t + n ≡ length s
+  block_length n s t h = go (nat_le n (length s)) refl (list_all (among fillers) (take n s)) h
+    where
+      go : (x : Bool) → nat_le n (length s) ≡ x → (y : Bool) → Some t ≡ cond (x && y) (Some (drop n s)) None → length t + n ≡ length s
+      go true e true f =
+          let same : t ≡ drop n s = cc in
+          let less = leb-true n (length s) e in
+          rw same (simp length-drop (omega arith))
+      go true e false f = let z : ◌≡◌ {A = ℕ} 0 1 = cc in let w : ⊥ = omega arith in absurd w
+      go false e y f = let z : ◌≡◌ {A = ℕ} 0 1 = cc in let w : ⊥ = omega arith in absurd w
 
   -- a name, byte by byte
 
@@ -192,13 +208,11 @@ module _ (stops fillers : List ℕ) where
   module _ (stopped : (b : ℕ) → among stops (to_ascii_lowercase b) ≡ among stops b) (filled : (b : ℕ) → among fillers (to_ascii_lowercase b) ≡ among fillers b) where
     after_filler : (b x : ℕ) (t w : List ℕ) → cut_name stops fillers (x ∷ w) ≡ true → among fillers b ≡ true → cut_key stops fillers t ≡ [] →
         (eqb (to_ascii_lowercase b) x && equals (cut_key stops fillers t) w) ≡ false
-    unfolding equals
     after_filler b x t [] h f q = rw (other_byte fillers (to_ascii_lowercase b) x (filled b ∙ f) (last_byte x h))
     after_filler b x t (y ∷ w) h f q = rw q (and_right (eqb (to_ascii_lowercase b) x) false refl)
 
     pub name_more : (b x : ℕ) (t w : List ℕ) → cut_name stops fillers (x ∷ w) ≡ true →
         equals (cut_key stops fillers (b ∷ t)) (x ∷ w) ≡ (eqb (to_ascii_lowercase b) x && equals (cut_key stops fillers t) w)
-    unfolding equals
     name_more b x t w h = go (among stops b) refl (among fillers b) refl (cut_key stops fillers t) refl
       where
         go : (s : Bool) → among stops b ≡ s → (f : Bool) → among fillers b ≡ f → (k : List ℕ) → cut_key stops fillers t ≡ k →
@@ -208,32 +222,29 @@ module _ (stops fillers : List ℕ) where
         go false p true q [] r = rw (key_fill b t p q r) (sym (after_filler b x t w h q r))
         go false p true q (y ∷ k) r = rw (key_keep b t p (inr (λ n. let z : ◌≡◌ {A = ℕ} 0 1 = cc in omega arith)))
 
-    at_name : (s name : List ℕ) (i : ℕ) → i < length name → 1 ≤ length s → cut_name stops fillers (drop i name) ≡ true →
-        equals (cut_key stops fillers s) (drop i name)
-        ≡ (eqb (to_ascii_lowercase (get_or s 0 0)) (get_or name i 0) && equals (cut_key stops fillers (take (length s - 1) (drop 1 s))) (drop (i + 1) name))
-    at_name s name i h l n =
-        let here = drop_more name i 0 h in
-        let cut : cut_name stops fillers (get_or name i 0 ∷ drop (i + 1) name) ≡ true = subst (λ w. cut_name stops fillers w ≡ true) here n in
-        ap (equals (cut_key stops fillers s)) here
-        ∙ ap (λ u. equals (cut_key stops fillers u) (get_or name i 0 ∷ drop (i + 1) name)) (first_rest s 0 l)
-        ∙ name_more (get_or s 0 0) (get_or name i 0) (take (length s - 1) (drop 1 s)) (drop (i + 1) name) cut
+    -- a name, and then nothing that counts
+    pub whole_name : (w s : List ℕ) → cut_name stops fillers w ≡ true →
+        equals (cut_key stops fillers s) w ≡ (equals (lowered (take (length w) s)) w && equals (cut_key stops fillers (drop (length w) s)) [])
+    whole_name [] s h = refl
+    whole_name (x ∷ w) [] h = rw key_nil
+    whole_name (x ∷ w) (b ∷ t) h =
+        name_more b x t w h
+        ∙ ap (λ e. eqb (to_ascii_lowercase b) x && e) (whole_name w t (name_rest x w h))
+        ∙ regroup (eqb (to_ascii_lowercase b) x) (equals (lowered (take (length w) t)) w) (equals (cut_key stops fillers (drop (length w) t)) [])
+      where
+        regroup : (x y z : Bool) → (x && (y && z)) ≡ ((x && y) && z)
+        regroup true y z = refl
+        regroup false y z = refl
 
-    module _ (s name : List ℕ) (i : ℕ) (h : i < length name) (l : 1 ≤ length s) (n : cut_name stops fillers (drop i name) ≡ true) where
-      pub name_same : to_ascii_lowercase (get_or s 0 0) ≡ get_or name i 0 →
-          equals (cut_key stops fillers (take (length s - 1) (drop 1 s))) (drop (i + 1) name) ≡ equals (cut_key stops fillers s) (drop i name)
-      name_same e = sym (at_name s name i h l n ∙ rw (eq-eqb (to_ascii_lowercase (get_or s 0 0)) (get_or name i 0) e))
+    module _ (w s : List ℕ) (h : cut_name stops fillers w ≡ true) where
+      pub name_same : (t u : List ℕ) → t ≡ take (length w) s → u ≡ drop (length w) s → true ≡ equals (lowered t) w →
+          equals (cut_key stops fillers u) [] ≡ equals (cut_key stops fillers s) w
+      name_same t u p q e = let f : true ≡ equals (lowered (take (length w) s)) w = rw p at e in rw q (sym (whole_name w s h ∙ rw (← f)))
 
-      pub name_other : (to_ascii_lowercase (get_or s 0 0) ≡ get_or name i 0 → ⊥) → false ≡ equals (cut_key stops fillers s) (drop i name)
-      name_other e = sym (at_name s name i h l n ∙ rw (ne_eqb (to_ascii_lowercase (get_or s 0 0)) (get_or name i 0) e))
+      pub name_other : (t : List ℕ) → t ≡ take (length w) s → false ≡ equals (lowered t) w → false ≡ equals (cut_key stops fillers s) w
+      name_other t p e = let f : false ≡ equals (lowered (take (length w) s)) w = rw p at e in sym (whole_name w s h ∙ rw (← f))
 
-  pub name_left : (name : List ℕ) (i : ℕ) → i < length name → cut_name stops fillers (drop i name) ≡ true →
-      cut_name stops fillers (drop (i + 1) name) ≡ true
-  name_left name i h n = name_rest (get_or name i 0) (drop (i + 1) name) (subst (λ w. cut_name stops fillers w ≡ true) (drop_more name i 0 h) n)
-
-  pub name_none : (s name : List ℕ) (i : ℕ) → i < length name → s ≡ [] → false ≡ equals (cut_key stops fillers s) (drop i name)
-  unfolding equals
-  name_none s name i h e =
-      sym (ap (equals (cut_key stops fillers s)) (drop_more name i 0 h) ∙ ap (λ u. equals (cut_key stops fillers u) (get_or name i 0 ∷ drop (i + 1) name)) e ∙ rw key_nil)
-
-  pub name_end : (s name : List ℕ) (i : ℕ) → length name ≤ i → equals (cut_key stops fillers s) [] ≡ equals (cut_key stops fillers s) (drop i name)
-  name_end s name i h = sym (ap (equals (cut_key stops fillers s)) (drop_all i name h))
+      pub name_short : length s < length w → false ≡ equals (cut_key stops fillers s) w
+      name_short l =
+          name_other (take (length w) s) refl
+          (sym (unequal eqb (lowered (take (length w) s)) w (λ e. let n : min (length w) (length s) ≡ length w = simp (length-map, length-take) at e in omega arith)))

@@ -1,16 +1,16 @@
 -- Short names are eight bytes at the front of a component, with only fillers after them.
-use Rattle.std.proofs.Common.{◌≡◌, ℕ, ◌-◌, ◌<◌, ◌≤◌, Bool, true, false, ◌&&◌, eqb, List, [], ◌∷◌, length, take, drop, codes, sym, refl, ap, ◌∙◌, subst, arith}
-use Rattle.std.specs.Char.{to_ascii_lowercase}
-use Rattle.std.specs.List.{AllByRecursion}
+use Rattle.std.proofs.Common.{Bor, MatchOption, Some, None, Option, ◌≡◌, ℕ, ◌<◌, ◌≤◌, Bool, true, false, ◌&&◌, List, [], ◌∷◌, length, take, drop, codes, sym, refl, ap, ◌∙◌, subst, arith}
+use Rattle.std.specs.List.{AllByRecursion, IsSplitAt}
+use Rattle.std.specs.Option.{option_map_or}
 use Rattle.std.proofs.ByRecursion.{All-weaker, All-append, All-take}
-use Rattle.std.proofs.lemmas.List.{length-map, length-take, length-append, take_rest}
+use Rattle.std.proofs.lemmas.List.{length-map, length-take, length-append}
 use Rattle.std.proofs.lemmas.Bool.{and_parts, and_from, true≢false}
 use Rattle.std.proofs.lemmas.Bool.Decides.{nat_tests}
-use Rattle.protections.specs.Words.{equals, some, among}
+use Rattle.protections.specs.Words.{equals, among}
 use Rattle.protections.specs.Keys.{lowered, cut_key, cut_name, ntfs_key}
 use Rattle.protections.specs.Names.{short, short_name, ShortName}
 use Rattle.protections.proofs.Agree.{colon, space_dot}
-use Rattle.protections.proofs.CutKey.{name_rest, name_more, key_nil}
+use Rattle.protections.proofs.CutKey.{whole_name}
 use Rattle.protections.proofs.Equal.{equals_true, equals_refl}
 use Rattle.protections.proofs.Told.{short_decides}
 
@@ -26,33 +26,15 @@ module _ (stops fillers : List ℕ) where
   free_name (x ∷ []) h = rw (h.0.0, h.0.1)
   free_name (x ∷ y ∷ w) h = rw h.0.0 (free_name (y ∷ w) h.1)
 
-  module _ (stopped : (b : ℕ) → among stops (to_ascii_lowercase b) ≡ among stops b) (filled : (b : ℕ) → among fillers (to_ascii_lowercase b) ≡ among fillers b) where
-    whole_name : (w s : List ℕ) → cut_name stops fillers w ≡ true →
-        equals (cut_key stops fillers s) w ≡ (equals (lowered (take (length w) s)) w && equals (cut_key stops fillers (drop (length w) s)) [])
-    unfolding equals
-    whole_name [] s h = refl
-    whole_name (x ∷ w) [] h = rw (key_nil stops fillers)
-    whole_name (x ∷ w) (b ∷ t) h =
-        name_more stops fillers stopped filled b x t w h
-        ∙ ap (λ e. eqb (to_ascii_lowercase b) x && e) (whole_name w t (name_rest stops fillers x w h))
-        ∙ regroup (eqb (to_ascii_lowercase b) x) (equals (lowered (take (length w) t)) w) (equals (cut_key stops fillers (drop (length w) t)) [])
-      where
-        regroup : (x y z : Bool) → (x && (y && z)) ≡ ((x && y) && z)
-        regroup true y z = refl
-        regroup false y z = refl
-
 -- short names
 
 digit_free : (d : ℕ) → (48 ≤ d) × (d ≤ 57) → Free (codes ":") (codes " .") d
-unfolding some
 digit_free d h = let low = h.0 in let high = h.1 in (grind (arith, nat_tests), grind (arith, nat_tests))
 
 short_free : AllByRecursion (Free (codes ":") (codes " .")) short
-unfolding some
 short_free = ((refl, refl), ((refl, refl), ((refl, refl), ((refl, refl), ((refl, refl), ((refl, refl), tt))))))
 
 tilde_free : Free (codes ":") (codes " .") 126
-unfolding some
 tilde_free = (refl, refl)
 
 short_name_free : (k : List ℕ) → ShortName k → cut_name (codes ":") (codes " .") k ≡ true
@@ -86,7 +68,7 @@ module _ (s : List ℕ) where
       let whole = whole_name (codes ":") (codes " .") colon space_dot w s (short_name_free w n) in
       rw (short_name_long w n) at whole
 
-  pub few_bytes : length s < 8 → false ≡ short_name (ntfs_key s)
+  few_bytes : length s < 8 → false ≡ short_name (ntfs_key s)
   unfolding ntfs_key
   few_bytes h = go (short_name (ntfs_key s)) refl
     where
@@ -117,8 +99,14 @@ module _ (s : List ℕ) where
           let same = equals_true (ntfs_key s) w found in
           absurd (true≢false (sym both.0 ∙ ap short_name (sym same) ∙ p))
 
-  pub no_front : false ≡ short_name (lowered (take 8 s)) → false ≡ short_name (ntfs_key s)
-  no_front e = sym (cut_short ∙ rw (← e))
+  -- the two parts of a component
+  abbrev pub parts_cut_short : Bor (List ℕ) × Bor (List ℕ) → Bool
+  parts_cut_short p = short_name (lowered p.0.now) && Filled p.1.now
 
-  pub front : (r : Bool) → true ≡ short_name (lowered (take 8 s)) → r ≡ Filled (take (length s - 8) (drop 8 s)) → r ≡ short_name (ntfs_key s)
-  front r e f = f ∙ ap Filled (take_rest s 8) ∙ sym (cut_short ∙ rw (← e))
+  pub cut_short_by : (o : Option (Bor (List ℕ) × Bor (List ℕ))) → MatchOption o (length s < 8) (λ p. IsSplitAt s 8 p.0.now p.1.now) →
+      option_map_or parts_cut_short o false ≡ short_name (ntfs_key s)
+  cut_short_by None h = few_bytes h
+  cut_short_by (Some p) h =
+      let front = h.1 in
+      let back = h.2 in
+      rw (front, back) (sym cut_short)

@@ -56,14 +56,12 @@ abbrev Long : List ℕ → Bool
 Long n = leb 3 (length n)
 
 all_true : (p : List ℕ → Bool) (ns : List (List ℕ)) → some (λ n. not (p n)) ns ≡ false → AllByRecursion (λ n. p n ≡ true) ns
-unfolding some
 all_true p [] h = tt
 all_true p (n ∷ ns) h =
     let both = or_parts (not (p n)) (some (λ n. not (p n)) ns) h in (not-false (p n) both.0, all_true p ns both.1)
 
 kept_more : (q : Bool) (n k : List ℕ) (ns : List (List ℕ)) →
     listed (map (drop 3) (cond q (n ∷ ns) ns)) k ≡ ((q && equals k (drop 3 n)) || listed (map (drop 3) ns) k)
-unfolding some
 kept_more true n k ns = refl
 kept_more false n k ns = refl
 
@@ -79,7 +77,6 @@ module _ (stops fillers : List ℕ) where
     one_name : (n : List ℕ) → cut_name stops fillers n ≡ true → Long n ≡ true →
         equals (cut_key stops fillers (a ∷ b ∷ c ∷ t)) n
         ≡ (equals (to_ascii_lowercase a ∷ to_ascii_lowercase b ∷ to_ascii_lowercase c ∷ []) (take 3 n) && equals (cut_key stops fillers t) (drop 3 n))
-    unfolding equals
     one_name [] h l = let z = leb-true 3 0 l in let w : ⊥ = omega arith in absurd w
     one_name (x ∷ []) h l = let z = leb-true 3 1 l in let w : ⊥ = omega arith in absurd w
     one_name (x ∷ y ∷ []) h l = let z = leb-true 3 2 l in let w : ⊥ = omega arith in absurd w
@@ -93,7 +90,7 @@ module _ (stops fillers : List ℕ) where
 
     after_three : (names : List (List ℕ)) → AllByRecursion (λ n. cut_name stops fillers n ≡ true) names → AllByRecursion (λ n. Long n ≡ true) names →
         listed names (cut_key stops fillers (a ∷ b ∷ c ∷ t)) ≡ listed (continued names (to_ascii_lowercase a ∷ to_ascii_lowercase b ∷ to_ascii_lowercase c ∷ [])) (cut_key stops fillers t)
-    unfolding some continued
+    unfolding continued
     after_three [] h l = refl
     after_three (n ∷ ns) h l =
         let rest = after_three ns h.1 l.1 in
@@ -103,7 +100,6 @@ module _ (stops fillers : List ℕ) where
         ∙ sym (kept_more q n (cut_key stops fillers t) (filter (λ n. equals (to_ascii_lowercase a ∷ to_ascii_lowercase b ∷ to_ascii_lowercase c ∷ []) (take 3 n)) ns))
 
 few : (k : List ℕ) (names : List (List ℕ)) → length k < 3 → AllByRecursion (λ n. Long n ≡ true) names → listed names k ≡ false
-unfolding some
 few k [] h l = refl
 few k (n ∷ ns) h l = go (equals k n) refl (few k ns h l.1)
   where
@@ -118,19 +114,16 @@ few k (n ∷ ns) h l = go (equals k n) refl (few k ns h l.1)
 -- the list of devices
 
 device_names : AllByRecursion (λ n. cut_name (codes ".:") (codes " ") n ≡ true) devices
-unfolding cut_name some
+unfolding cut_name
 device_names = all_true (cut_name (codes ".:") (codes " ")) devices refl
 
 long_names : AllByRecursion (λ n. Long n ≡ true) devices
-unfolding some
 long_names = all_true Long devices refl
 
 stop_lower : (b : ℕ) → among (codes ".:") (to_ascii_lowercase b) ≡ among (codes ".:") b
-unfolding some
 stop_lower b = grind (arith, nat_tests)
 
 space_lower : (b : ℕ) → among (codes " ") (to_ascii_lowercase b) ≡ among (codes " ") b
-unfolding some
 space_lower b = grind (arith, nat_tests)
 
 abbrev Key : List ℕ → List ℕ
@@ -143,11 +136,9 @@ pub with_letters : (a b c x y z : ℕ) (t : List ℕ) (r : Bool) → a ≡ x →
 with_letters a b c x y z t r p q s e = e ∙ sym (rw (p, q, s))
 
 pub without_letters : (a b c : ℕ) (t : List ℕ) → (DeviceLetters a b c → ⊥) → false ≡ listed (continued devices (a ∷ b ∷ c ∷ [])) (Key t)
-unfolding some
 without_letters a b c t h = ap (λ ns. listed ns (Key t)) (no_letters a b c h)
 
 pub alone : (t : List ℕ) → equals (Key t) [] ≡ listed ([] ∷ []) (Key t)
-unfolding some
 alone t = sym (or_none (equals (Key t) []))
   where
     or_none : (x : Bool) → (x || false) ≡ x
@@ -172,7 +163,6 @@ module _ (s : List ℕ) where
   -- the first byte is another
   no_name : (x : ℕ) (w : List ℕ) → cut_name (codes ".:") (codes " ") (x ∷ w) ≡ true → (1 ≤ length s → to_ascii_lowercase (get_or s 0 0) ≡ x → ⊥) →
       equals (Key s) (x ∷ w) ≡ false
-  unfolding equals
   no_name x w h n = go s n
     where
       go : (s : List ℕ) → (1 ≤ length s → to_ascii_lowercase (get_or s 0 0) ≡ x → ⊥) → equals (Key s) (x ∷ w) ≡ false
@@ -195,18 +185,18 @@ module _ (s : List ℕ) where
   module _ (r : Bool) where
     pub console : (1 ≤ length s → to_ascii_lowercase (get_or s 0 0) ≡ 105 → ⊥) → (1 ≤ length s → to_ascii_lowercase (get_or s 0 0) ≡ 111 → ⊥) → r ≡ equals (Key s) [] →
         r ≡ listed (continued devices (codes "con")) (Key s)
-    unfolding some continued equals cut_name
+    unfolding continued cut_name
     console m n e = e ∙ first_of (equals (Key s) []) (equals (Key s) (codes "in$")) (equals (Key s) (codes "out$")) (no_name 105 (codes "n$") refl m) (no_name 111 (codes "ut$") refl n)
 
     pub console_in : 1 ≤ length s → to_ascii_lowercase (get_or s 0 0) ≡ 105 → r ≡ equals (Key s) (codes "in$") → r ≡ listed (continued devices (codes "con")) (Key s)
-    unfolding some continued equals cut_name
+    unfolding continued cut_name
     console_in l f e =
         e
         ∙ second_of (equals (Key s) []) (equals (Key s) (codes "in$")) (equals (Key s) (codes "out$")) (no_end 105 l f refl refl)
         (no_name 111 (codes "ut$") refl (λ _ g. omega arith))
 
     pub console_out : 1 ≤ length s → to_ascii_lowercase (get_or s 0 0) ≡ 111 → r ≡ equals (Key s) (codes "out$") → r ≡ listed (continued devices (codes "con")) (Key s)
-    unfolding some continued equals cut_name
+    unfolding continued cut_name
     console_out l f e =
         e
         ∙ third_of (equals (Key s) []) (equals (Key s) (codes "in$")) (equals (Key s) (codes "out$")) (no_end 111 l f refl refl)
@@ -216,7 +206,6 @@ module _ (s : List ℕ) where
 
 one_digit : (b : ℕ) (t ds : List ℕ) → AllByRecursion (λ d. cut_name (codes ".:") (codes " ") (d ∷ []) ≡ true) ds →
     listed (map (λ d. d ∷ []) ds) (Key (b ∷ t)) ≡ (among ds (to_ascii_lowercase b) && equals (Key t) [])
-unfolding some
 one_digit b t [] h = refl
 one_digit b t (d ∷ ds) h =
     ap (λ x. x || listed (map (λ d. d ∷ []) ds) (Key (b ∷ t))) (name_more (codes ".:") (codes " ") stop_lower space_lower b d t [] h.0)
@@ -231,11 +220,9 @@ one_digit b t (d ∷ ds) h =
     apart false y z = refl
 
 from_one : (b : ℕ) → not (ltb b 49 || ltb 57 b) ≡ among (codes "123456789") (to_ascii_lowercase b)
-unfolding some
 from_one b = grind (arith, nat_tests)
 
 from_zero : (b : ℕ) → not (ltb b 48 || ltb 57 b) ≡ among (codes "0123456789") (to_ascii_lowercase b)
-unfolding some
 from_zero b = grind (arith, nat_tests)
 
 pub numbered : (least : ℕ) (s : List ℕ) → 1 ≤ length s → (ltb (get_or s 0 0) least || ltb 57 (get_or s 0 0)) ≡ false →
@@ -243,14 +230,14 @@ pub numbered : (least : ℕ) (s : List ℕ) → 1 ≤ length s → (ltb (get_or 
 numbered least s l e = sym (ap (from_digit least) (first_rest s 0 l) ∙ rw e)
 
 pub numbered_com : (s : List ℕ) → from_digit 49 s ≡ listed (continued devices (codes "com")) (Key s)
-unfolding some continued equals cut_name
+unfolding continued cut_name
 numbered_com [] = rw (key_nil (codes ".:") (codes " "))
 numbered_com (b ∷ t) =
     ap (λ x. x && equals (Key t) []) (from_one b)
     ∙ sym (one_digit b t (codes "123456789") (refl, (refl, (refl, (refl, (refl, (refl, (refl, (refl, (refl, tt))))))))))
 
 pub numbered_lpt : (s : List ℕ) → from_digit 48 s ≡ listed (continued devices (codes "lpt")) (Key s)
-unfolding some continued equals cut_name
+unfolding continued cut_name
 numbered_lpt [] = rw (key_nil (codes ".:") (codes " "))
 numbered_lpt (b ∷ t) =
     ap (λ x. x && equals (Key t) []) (from_zero b)

@@ -1,15 +1,10 @@
 -- The steps of a walk over the characters that HFS+ does not pass over.
-use Rattle.std.proofs.Common.{◌≡◌, ℕ, true, false, not, eqb, List, [], ◌∷◌, map, get_or, Some, None, filter, Option, sym, refl, ap, ◌∙◌}
+use Rattle.std.proofs.Common.{◌≡◌, ℕ, true, false, not, List, [], ◌∷◌, map, filter, sym, ap, ◌∙◌}
 use Rattle.std.specs.Char.{to_ascii_lowercase}
 use Rattle.characters.specs.declared.Part.{Part}
 use Rattle.characters.specs.Standard.{point}
 use Rattle.characters.specs.Reader.{parts, code_points}
 use Rattle.characters.proofs.Steps.{parts_nil}
-use Rattle.protections.specs.declared.rules.Mode.{Mode}
-use Rattle.protections.specs.declared.rules.Mode.TheVariants.{Symlink}
-use Rattle.protections.specs.Words.{equals}
-use Rattle.protections.specs.Names.{git, modules}
-use Rattle.protections.specs.Rules.{guarded}
 use Rattle.protections.specs.Keys.{lowered, ignored, hfs_key}
 
 key_of : List Part → List ℕ
@@ -30,11 +25,3 @@ module _ (s t : List ℕ) (p : Part) (c : ℕ) (e : parts s ≡ p ∷ parts t) (
 pub none_left : (s : List ℕ) → s ≡ [] → hfs_key s ≡ []
 unfolding hfs_key code_points
 none_left s e = rw (e, parts_nil)
-
--- a key that does not begin with a dot
-pub no_dot : (k : List ℕ) (mode : Option Mode) → false ≡ eqb (get_or k 0 0) 46 → None ≡ guarded (equals k git) (equals k modules) mode
-unfolding equals
-no_dot [] None e = refl
-no_dot [] (Some Symlink) e = refl
-no_dot (x ∷ k) None e = rw (← e)
-no_dot (x ∷ k) (Some Symlink) e = rw (← e)

@@ -1,6 +1,6 @@
 -- The lemmas that the proofs share.
 pub mod Agree
-pub mod Cut
+mod Compared
 pub mod CutKey
 mod CutShort
 pub mod Devices

@@ -1,17 +1,17 @@
 -- The tests for names decide what the definitions say in words.
-use Rattle.std.proofs.Common.{◌≡◌, ℕ, ◌-◌, ◌<◌, ◌≤◌, true, false, not, ◌&&◌, eqb, leb, List, [], ◌∷◌, ◌++◌, length, take, drop, Decides, sym, refl, ap, ◌∙◌, subst, arith}
-use Rattle.std.specs.List.{HoldsAt, ContainsAt as Has, AllByRecursion}
+use Rattle.std.proofs.Common.{◌≡◌, ℕ, ◌-◌, ◌<◌, ◌≤◌, true, ◌&&◌, eqb, leb, List, [], ◌∷◌, ◌++◌, length, take, drop, Decides, sym, refl, ap, ◌∙◌, subst, arith}
+use Rattle.std.specs.Char.{is_ascii_digit}
+use Rattle.std.specs.List.{list_all, HoldsAt, ContainsAt as Has, AllByRecursion}
 use Rattle.std.proofs.lemmas.List.{take_at, drop_at, take-append-drop, length-take, get_or_default}
-use Rattle.std.proofs.lemmas.Bool.{eqb-true, eq-eqb, leb-true, le-leb, and_parts, or_parts, not-true, not-false, false≢true}
+use Rattle.std.proofs.lemmas.Bool.{eqb-true, eq-eqb, leb-true, le-leb, and_parts, false≢true}
 use Rattle.std.proofs.lemmas.Bool.Decides.{Decides-by_or}
 use Rattle.protections.specs.Words.{equals, some, listed}
-use Rattle.protections.specs.Names.{short, digit, every_digit, numbered_by, short_at, short_name, ShortName}
+use Rattle.protections.specs.Names.{short, numbered_by, short_at, short_name, ShortName}
 use Rattle.protections.proofs.Equal.{equals_true, equals_refl}
 use Rattle.protections.proofs.Short.{choices, choice}
 
 -- a list of names holds the given one
 pub listed_decides : (names : List (List ℕ)) (k : List ℕ) → Decides (listed names k) (Has names k)
-unfolding some
 listed_decides names k =
     Decides-by_or (equals k) (λ n. n ≡ k) (some (equals k))
     (λ n. (λ e. sym (equals_true k n e), λ e. subst (λ m. equals k m ≡ true) (sym e) (equals_refl k)))
@@ -21,16 +21,14 @@ listed_decides names k =
 
 -- digits
 
-digits_from : (s : List ℕ) → some (λ b. not (digit b)) s ≡ false → AllByRecursion (λ d. (48 ≤ d) × (d ≤ 57)) s
-unfolding some
+digits_from : (s : List ℕ) → list_all is_ascii_digit s ≡ true → AllByRecursion (λ d. (48 ≤ d) × (d ≤ 57)) s
 digits_from [] e = tt
 digits_from (b ∷ s) e =
-    let parts = or_parts (not (digit b)) (some (λ b. not (digit b)) s) e in
-    let here = and_parts (leb 48 b) (leb b 57) (not-false (digit b) parts.0) in
+    let parts = and_parts (is_ascii_digit b) (list_all is_ascii_digit s) e in
+    let here = and_parts (leb 48 b) (leb b 57) parts.0 in
     ((leb-true 48 b here.0, leb-true b 57 here.1), digits_from s parts.1)
 
-digits_to : (s : List ℕ) → AllByRecursion (λ d. (48 ≤ d) × (d ≤ 57)) s → some (λ b. not (digit b)) s ≡ false
-unfolding some
+digits_to : (s : List ℕ) → AllByRecursion (λ d. (48 ≤ d) × (d ≤ 57)) s → list_all is_ascii_digit s ≡ true
 digits_to [] h = refl
 digits_to (b ∷ s) h = rw (le-leb 48 b h.0.0, le-leb b 57 h.0.1, digits_to s h.1)
 
@@ -49,10 +47,10 @@ numbered_from : (n : ℕ) (s : List ℕ) → numbered_by n s ≡ true → Number
 numbered_from n [] e = absurd (false≢true e)
 numbered_from n (t ∷ []) e = absurd (false≢true e)
 numbered_from n (t ∷ d ∷ ds) e =
-    let one = and_parts (eqb t 126) (leb 49 d && leb d 57 && (eqb (length ds) n && every_digit ds)) e in
-    let two = and_parts (leb 49 d && leb d 57) (eqb (length ds) n && every_digit ds) one.1 in
+    let one = and_parts (eqb t 126) (leb 49 d && leb d 57 && (eqb (length ds) n && list_all is_ascii_digit ds)) e in
+    let two = and_parts (leb 49 d && leb d 57) (eqb (length ds) n && list_all is_ascii_digit ds) one.1 in
     let bounds = and_parts (leb 49 d) (leb d 57) two.0 in
-    let three = and_parts (eqb (length ds) n) (every_digit ds) two.1 in
+    let three = and_parts (eqb (length ds) n) (list_all is_ascii_digit ds) two.1 in
     record {
       first = d;
       digits = ds;
@@ -60,7 +58,7 @@ numbered_from n (t ∷ d ∷ ds) e =
       from_one = leb-true 49 d bounds.0;
       to_nine = leb-true d 57 bounds.1;
       as_many = eqb-true (length ds) n three.0;
-      each = digits_from ds (not-true (some (λ b. not (digit b)) ds) three.1);
+      each = digits_from ds three.1;
     }
 
 numbered_to : (n d : ℕ) (ds : List ℕ) → 49 ≤ d → d ≤ 57 → length ds ≡ n → AllByRecursion (λ d. (48 ≤ d) × (d ≤ 57)) ds →
@@ -96,7 +94,7 @@ short_to k s =
     rw (front, back, equals_refl (take s.kept short), numbered_to (6 - s.kept) s.first s.digits s.from_one s.to_nine s.as_many s.each)
 
 pub short_decides : (k : List ℕ) → Decides (short_name k) (ShortName k)
-unfolding short_name some
+unfolding short_name
 short_decides k = (λ e. from (d.0 e), λ s. d.1 (to s))
   where
     d : Decides (some (short_at k) choices) ((i : ℕ) × (i < 7) × HoldsAt (λ n. short_at k n ≡ true) choices i)

@@ -1,6 +1,7 @@
 -- The names that the verdicts look for, as keys.
-use Rattle.std.specs.Prelude.{◌≡◌, ℕ, ◌-◌, ◌≤◌, Bool, false, not, ◌&&◌, List, [], ◌∷◌, ◌++◌, map, length, take, drop, codes, filter, ◌==◌, nat_le}
-use Rattle.std.specs.List.{AllByRecursion}
+use Rattle.std.specs.Prelude.{◌≡◌, ℕ, ◌-◌, ◌≤◌, Bool, false, ◌&&◌, List, [], ◌∷◌, ◌++◌, map, length, take, drop, codes, filter, ◌==◌, nat_le}
+use Rattle.std.specs.Char.{is_ascii_digit}
+use Rattle.std.specs.List.{AllByRecursion, list_all}
 use Rattle.protections.specs.Words.{equals, some}
 
 abbrev pub git : List ℕ
@@ -34,18 +35,11 @@ pub record ShortName (k : List ℕ) : Type 0 where
 
 -- the same as a test, at a number of bytes kept
 
-abbrev pub digit : ℕ → Bool
-digit b = nat_le 48 b && nat_le b 57
-
--- no byte is anything else
-abbrev pub every_digit : List ℕ → Bool
-every_digit bs = not (some (λ b. not (digit b)) bs)
-
 -- a tilde, a digit 1 to 9, so many digits
 abbrev pub numbered_by : ℕ → List ℕ → Bool
 numbered_by n [] = false
 numbered_by n (t ∷ []) = false
-numbered_by n (t ∷ d ∷ ds) = t == 126 && (nat_le 49 d && nat_le d 57 && (length ds == n && every_digit ds))
+numbered_by n (t ∷ d ∷ ds) = t == 126 && (nat_le 49 d && nat_le d 57 && (length ds == n && list_all is_ascii_digit ds))
 
 abbrev pub short_at : List ℕ → ℕ → Bool
 short_at k kept = equals (take kept k) (take kept short) && numbered_by (6 - kept) (drop kept k)

@@ -18,10 +18,7 @@ pub struct Hfs;
 fn passes_over(number: u32) -> bool
     ensures { result ≡ ignored number }
 {
-    match number {
-        0x200C..=0x200F | 0x202A..=0x202E | 0x206A..=0x206F | 0xFEFF => true,
-        _ => false,
-    }
+    matches!(number, 0x200C..=0x200F | 0x202A..=0x202E | 0x206A..=0x206F | 0xFEFF)
 }
 
 impl Keyed for Hfs {
@@ -50,20 +47,18 @@ impl Keyed for Hfs {
 fn begins_with_dot(component: &[u8]) -> bool
     ensures { result ≡ (slice_index (hfs_key component.now) 0 == 46) }
 {
-    match Cursor::new(&Hfs, component).next() {
-        Some(first) => first == 0x2E,
-        None => false,
-    }
+    Cursor::new(&Hfs, component).next() == Some(0x2E)
 }
 
 impl Protection for Hfs {
     ghost judged = { λ _ s mode. hfs_rule s mode };
 
+    #[tactic(auto, unfolding(crate::specs::Rules::hfs_rule))]
     fn verdict(&self, component: &[u8], mode: Option<Mode>) -> Option<Verdict> {
         if !begins_with_dot(component) {
             return None;
         }
         let modules = is_link(mode) && named(self, component, b".gitmodules");
-        guard(named(self, component, b".git"), modules, mode)
+        guard(named(self, component, b".git"), modules)
     }
 }

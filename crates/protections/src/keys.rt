@@ -1,5 +1,6 @@
 //! Keys: lists of numbers by which components are compared, and the one comparison.
 ghost use Rattle.std.specs.Prelude.{◌≡◌, ℕ, ◌<◌, ◌≤◌, List, Decides};
+ghost use Rattle.std.specs.Iterator.{YieldsFirst, item_count};
 ghost use Rattle.std.specs.List.{AllByRecursion};
 ghost use Rattle.protections.specs.Words.{Takes, equals};
 ghost use Rattle.protections.specs.Keys.{lowered};
@@ -39,31 +40,27 @@ impl<'p, 'a, P: Keyed> Cursor<'p, 'a, P> {
         let rest = protection.start(component);
         Cursor { protection, rest }
     }
+}
+
+impl<'p, 'a, P: Keyed> Iterator for Cursor<'p, 'a, P> {
+    type Item = u32;
+
+    ghost next_gives = { YieldsFirst (λ c. P.Keyed.remaining c.protection.now c.rest.now) };
+
+    ghost remaining = { item_count (λ c. P.Keyed.remaining c.protection.now c.rest.now) };
 
     /// The next number of the key.
-    pub fn next(&mut self) -> Option<u32>
-        ensures { Takes (P.Keyed.remaining self.old.protection.now self.old.rest.now) result (P.Keyed.remaining self.new.protection.now self.new.rest.now) }
-    {
+    fn next(&mut self) -> Option<u32> {
         self.protection.advance(&mut self.rest)
     }
 }
 
 /// Whether two cursors yield the same numbers.
-pub fn same<P: Keyed, Q: Keyed>(mut left: Cursor<'_, '_, P>, mut right: Cursor<'_, '_, Q>) -> bool
+pub fn same<P: Keyed, Q: Keyed>(left: Cursor<'_, '_, P>, right: Cursor<'_, '_, Q>) -> bool
     ensures value { result ≡ equals (P.Keyed.remaining left.entry.protection.now left.entry.rest.now) (Q.Keyed.remaining right.entry.protection.now right.entry.rest.now) }
     ensures decides { Decides result (P.Keyed.remaining left.entry.protection.now left.entry.rest.now ≡ Q.Keyed.remaining right.entry.protection.now right.entry.rest.now) }
 {
-    while let Some(number) = left.next() {
-        match right.next() {
-            Some(other) => {
-                if other != number {
-                    return false;
-                }
-            }
-            None => return false,
-        }
-    }
-    right.next().is_none()
+    left.eq(right)
 }
 
 /// Whether two components have the same key.
@@ -76,7 +73,7 @@ pub fn same_key<P: Keyed>(protection: &P, left: &[u8], right: &[u8]) -> bool
     )
 }
 
-// A to Z made small.
+// A to Z made small. The library has this for a byte and for a `char`, and a key's number is neither.
 pub(crate) fn small(number: u32) -> u32
     ensures { result ≡ to_ascii_lowercase number }
 {

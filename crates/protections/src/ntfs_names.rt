@@ -1,7 +1,7 @@
 //! The protection for NTFS: streams, trailing spaces and dots, and short names.
 ghost use Rattle.std.specs.Prelude.{◌≡◌, ℕ, ◌≤◌, ◌||◌, length, codes, Decides};
 ghost use Rattle.protections.specs.Keys.{lowered, ntfs_key};
-ghost use Rattle.protections.specs.Names.{digit, every_digit, numbered_by, short_at, short_name, ShortName, ntfs_modules};
+ghost use Rattle.protections.specs.Names.{numbered_by, short_at, short_name, ShortName, ntfs_modules};
 ghost use Rattle.protections.specs.Words.{listed, some};
 ghost use Rattle.protections.specs.Rules.{numbered, ntfs_rule};
 ghost use Rattle.protections.specs.Bound.{bytes_bounded, ntfs_bounded};
@@ -51,11 +51,11 @@ impl Cut for Ntfs {
 
     ghost fillers = { codes " ." };
 
-    ghost apart = { unfold some in λ b h. Prim.grind (arith, nat_tests) };
+    ghost apart = { λ b h. Prim.grind (arith, nat_tests) };
 
-    ghost stopped = { unfold some in λ b. Prim.grind (arith, nat_tests) };
+    ghost stopped = { λ b. Prim.grind (arith, nat_tests) };
 
-    ghost filled = { unfold some in λ b. Prim.grind (arith, nat_tests) };
+    ghost filled = { λ b. Prim.grind (arith, nat_tests) };
 
     fn is_stop(&self, byte: u8) -> bool {
         one_of(byte, b":")
@@ -66,35 +66,13 @@ impl Cut for Ntfs {
     }
 }
 
-fn is_digit(byte: u8) -> bool
-    ensures { result ≡ digit byte }
-{
-    b'0' <= byte && byte <= b'9'
-}
-
-// Whether all bytes are digits.
-fn all_digits(bytes: &[u8]) -> bool
-    ensures { result ≡ every_digit bytes.now }
-{
-    for byte in bytes {
-        if !is_digit(*byte) {
-            return false;
-        }
-    }
-    true
-}
-
 // Whether the bytes are a tilde, a digit 1 to 9 and `more` digits.
 fn is_numbered(bytes: &[u8], more: usize) -> bool
     ensures { result ≡ numbered_by more bytes.now }
 {
     match bytes {
-        [tilde, first, digits @ ..] => {
-            *tilde == b'~'
-                && b'1' <= *first
-                && *first <= b'9'
-                && digits.len() == more
-                && all_digits(digits)
+        [b'~', b'1'..=b'9', digits @ ..] => {
+            digits.len() == more && digits.iter().all(u8::is_ascii_digit)
         }
         _ => false,
     }
@@ -105,36 +83,28 @@ fn is_short_at(name: &[u8], kept: usize) -> bool
     requires { kept ≤ 6 }
     ensures { result ≡ short_at (lowered name.now) kept }
 {
-    if kept > name.len() {
-        return false;
-    }
-    let short: &[u8] = b"gi7eba";
-    is_numbered(&name[kept..], 6 - kept) && named(&Lowered, &name[0..kept], &short[0..kept])
+    name.split_at_checked(kept).is_some_and(|(front, back)| {
+        is_numbered(back, 6 - kept) && named(&Lowered, front, &b"gi7eba"[..kept])
+    })
 }
 
 // Whether the name is a short name of `.gitmodules`.
 fn is_short(name: &[u8]) -> bool
     ensures { result ≡ short_name (lowered name.now) }
 {
-    for front in 0..7 {
-        if is_short_at(name, front) {
-            return true;
-        }
-    }
-    false
+    (0..7).any(|kept| is_short_at(name, kept))
 }
 
 // Whether NTFS takes the component for a short name of `.gitmodules`.
 fn is_cut_short(component: &[u8]) -> bool
     ensures { result ≡ short_name (ntfs_key component.now) }
 {
-    if component.len() < 8 {
-        return false;
-    }
-    is_short(&component[0..8]) && only_fillers(&Ntfs, &component[8..])
+    component.split_at_checked(8).is_some_and(|(front, rest)| is_short(front)
+        && only_fillers(&Ntfs, rest))
 }
 
 // Whether NTFS takes the component for `.gitmodules`.
+#[tactic(auto, unfolding(crate::specs::Keys::cut_key, crate::specs::Keys::ntfs_key))]
 fn is_modules(component: &[u8]) -> bool
     ensures { result ≡ (listed ntfs_modules (ntfs_key component.now) || short_name (ntfs_key component.now)) }
 {
@@ -144,11 +114,12 @@ fn is_modules(component: &[u8]) -> bool
 impl Protection for Ntfs {
     ghost judged = { λ _ s mode. ntfs_rule s mode };
 
+    #[tactic(auto, unfolding(crate::specs::Rules::ntfs_rule, crate::specs::Keys::cut_key, crate::specs::Keys::ntfs_key))]
     fn verdict(&self, component: &[u8], mode: Option<Mode>) -> Option<Verdict>
         ensures value { numbered result ≡ ntfs_rule component.now mode }
         ensures short_names { Decides (short_name (ntfs_key component.now)) (ShortName (ntfs_key component.now)) }
     {
         let modules = is_link(mode) && is_modules(component);
-        guard(cut_named_among(self, component, &GIT), modules, mode)
+        guard(cut_named_among(self, component, &GIT), modules)
     }
 }

@@ -1,5 +1,5 @@
 //! Verdicts on components, and what a protection is.
-ghost use Rattle.std.specs.Prelude.{◌≡◌, ℕ, Bool, List, Option as Maybe};
+ghost use Rattle.std.specs.Prelude.{◌≡◌, ℕ, Bool, cond, List, Some, None, Option as Maybe};
 ghost use Rattle.protections.specs.declared.rules.Mode.{Mode as Kind};
 ghost use Rattle.protections.specs.Rules.{number_of, numbered, guarded, linked};
 
@@ -15,12 +15,12 @@ pub enum Mode {
 /// Why a component is refused.
 #[derive(Clone, Copy, PartialEq, Eq, Debug)]
 pub enum Verdict {
-    PathSeparator,
-    WindowsPathPrefix,
-    WindowsReservedName,
-    WindowsIllegalCharacter,
-    DotGitDir,
-    SymlinkedGitModules,
+    PathSeparator = 22,
+    WindowsPathPrefix = 23,
+    WindowsReservedName = 24,
+    WindowsIllegalCharacter = 25,
+    DotGitDir = 26,
+    SymlinkedGitModules = 27,
 }
 
 impl Verdict {
@@ -28,14 +28,7 @@ impl Verdict {
     pub fn number(&self) -> u8
         ensures { result ≡ number_of self.now }
     {
-        match *self {
-            Verdict::PathSeparator => 22,
-            Verdict::WindowsPathPrefix => 23,
-            Verdict::WindowsReservedName => 24,
-            Verdict::WindowsIllegalCharacter => 25,
-            Verdict::DotGitDir => 26,
-            Verdict::SymlinkedGitModules => 27,
-        }
+        *self as u8
     }
 }
 
@@ -52,27 +45,15 @@ pub trait Protection: Keyed {
 pub(crate) fn is_link(mode: Option<Mode>) -> bool
     ensures { result ≡ linked mode }
 {
-    match mode {
-        Some(Mode::Symlink) => true,
-        None => false,
-    }
+    mode == Some(Mode::Symlink)
 }
 
 // 26 for a name that is taken for `.git`, and 27 for a link that is taken for `.gitmodules`.
-pub(crate) fn guard(git: bool, modules: bool, mode: Option<Mode>) -> Option<Verdict>
-    ensures { numbered result ≡ guarded git modules mode }
+pub(crate) fn guard(git: bool, linked_modules: bool) -> Option<Verdict>
+    ensures { numbered result ≡ cond git (Some 26) (cond linked_modules (Some 27) None) }
 {
     if git {
         return Some(Verdict::DotGitDir);
     }
-    match mode {
-        Some(Mode::Symlink) => {
-            if modules {
-                Some(Verdict::SymlinkedGitModules)
-            } else {
-                None
-            }
-        }
-        None => None,
-    }
+    linked_modules.then_some(Verdict::SymlinkedGitModules)
 }

@@ -5,7 +5,7 @@ ghost use Rattle.protections.specs.Bound.{bytes_bounded, lowered_bounded};
 use crate::cuts::take_small;
 use crate::keys::Keyed;
 
-// The bytes with A to Z made small.
+// The bytes with A to Z made small. NTFS takes the same step: a trait for one line would be longer.
 #[derive(Clone, Copy)]
 pub(crate) struct Lowered;
 

@@ -5,12 +5,12 @@ ghost use Rattle.protections.specs.Names.{devices, continued};
 ghost use Rattle.protections.specs.Words.{listed, some};
 ghost use Rattle.protections.specs.Keys.{cut_key, ended, device_key, from_digit};
 ghost use Rattle.protections.specs.Rules.{is_device, illegal, has_illegal, ends_illegally, device_rule};
-ghost use Rattle.protections.specs.Bound.{bytes_bounded};
 ghost use Rattle.std.proofs.Common.{arith};
 ghost use Rattle.std.proofs.lemmas.Bool.Decides.{nat_tests};
 
+use crate::bytes_as_they_are::ByBytes;
 use crate::cut_names::{Cut, only_fillers, past_name};
-use crate::cuts::{one_of, take_byte};
+use crate::cuts::one_of;
 use crate::keys::Keyed;
 use crate::rules::{Mode, Protection, Verdict};
 
@@ -18,32 +18,18 @@ use crate::rules::{Mode, Protection, Verdict};
 #[derive(Clone, Copy)]
 pub struct WindowsDevices;
 
-impl Keyed for WindowsDevices {
-    ghost key = { λ _ s. s };
-
-    ghost remaining = { λ _ s. s };
-
-    ghost within = { λ p s h. bytes_bounded s h };
-
-    fn start<'a>(&self, component: &'a [u8]) -> &'a [u8] {
-        component
-    }
-
-    fn advance(&self, rest: &mut &[u8]) -> Option<u32> {
-        take_byte(rest)
-    }
-}
+impl ByBytes for WindowsDevices {}
 
 impl Cut for WindowsDevices {
     ghost stops = { codes ".:" };
 
     ghost fillers = { codes " " };
 
-    ghost apart = { unfold some in λ b h. Prim.grind (arith, nat_tests) };
+    ghost apart = { λ b h. Prim.grind (arith, nat_tests) };
 
-    ghost stopped = { unfold some in λ b. Prim.grind (arith, nat_tests) };
+    ghost stopped = { λ b. Prim.grind (arith, nat_tests) };
 
-    ghost filled = { unfold some in λ b. Prim.grind (arith, nat_tests) };
+    ghost filled = { λ b. Prim.grind (arith, nat_tests) };
 
     fn is_stop(&self, byte: u8) -> bool {
         one_of(byte, b".:")
@@ -70,13 +56,8 @@ fn past_digit<'a>(rest: &'a [u8], least: u8) -> Option<&'a [u8]>
     ensures { ended (codes ".:") (codes " ") result ≡ from_digit least rest.now }
 {
     match rest {
-        [digit, tail @ ..] => {
-            if (*digit < least) | (*digit > b'9') {
-                return None;
-            }
-            Some(tail)
-        }
-        [] => None,
+        [digit, tail @ ..] if (least..=b'9').contains(digit) => Some(tail),
+        _ => None,
     }
 }
 
@@ -103,16 +84,13 @@ pub fn names_device(component: &[u8]) -> bool
     let [a, b, c, rest @ ..] = component else {
         return false;
     };
-    let after = past_device(
+    past_device(
         a.to_ascii_lowercase(),
         b.to_ascii_lowercase(),
         c.to_ascii_lowercase(),
         rest,
-    );
-    match after {
-        Some(tail) => only_fillers(&WindowsDevices, tail),
-        None => false,
-    }
+    )
+    .is_some_and(|tail| only_fillers(&WindowsDevices, tail))
 }
 
 // Whether the byte is below 0x20 or one of the marks that Windows does not allow.
@@ -122,7 +100,9 @@ fn is_illegal(byte: u8) -> bool
     (byte < 0x20) | one_of(byte, b":<>\"|?*")
 }
 
-// Whether a byte anywhere is not allowed. The loop has no early exit, so that it reads many bytes at a time.
+// Whether a byte anywhere is not allowed. The rules of the project ask for a `for` over the bytes, and the loop has no
+// early exit, so that it reads many bytes at a time.
+#[tactic(auto, unfolding(crate::specs::Rules::has_illegal))]
 fn holds_illegal(component: &[u8]) -> bool
     ensures { result ≡ has_illegal component.now }
 {
@@ -134,13 +114,11 @@ fn holds_illegal(component: &[u8]) -> bool
 }
 
 // Whether the last byte is a dot or a space.
+#[tactic(auto, unfolding(crate::specs::Rules::ends_illegally))]
 fn ends_illegal(component: &[u8]) -> bool
     ensures { result ≡ ends_illegally component.now }
 {
-    match component {
-        [.., last] => one_of(*last, b". "),
-        [] => false,
-    }
+    matches!(component, [.., b'.' | b' '])
 }
 
 fn breaks_rules(component: &[u8]) -> bool
@@ -152,13 +130,11 @@ fn breaks_rules(component: &[u8]) -> bool
 impl Protection for WindowsDevices {
     ghost judged = { λ _ s mode. device_rule s mode };
 
+    #[tactic(auto, unfolding(crate::specs::Rules::device_rule))]
     fn verdict(&self, component: &[u8], _mode: Option<Mode>) -> Option<Verdict> {
         if names_device(component) {
             return Some(Verdict::WindowsReservedName);
         }
-        if breaks_rules(component) {
-            return Some(Verdict::WindowsIllegalCharacter);
-        }
-        None
+        breaks_rules(component).then_some(Verdict::WindowsIllegalCharacter)
     }
 }

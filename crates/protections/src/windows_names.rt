@@ -2,9 +2,9 @@
 ghost use Rattle.std.specs.Prelude.{◌≡◌, ◌==◌, slice_index};
 ghost use Rattle.characters.specs.Reader.{code_points};
 ghost use Rattle.protections.specs.Rules.{windows_rule};
-ghost use Rattle.protections.specs.Bound.{bytes_bounded};
 
-use crate::cuts::{one_of, take_byte};
+use crate::bytes_as_they_are::ByBytes;
+use crate::cuts::one_of;
 use crate::keys::Keyed;
 use crate::rules::{Mode, Protection, Verdict};
 use characters::take_part;
@@ -13,21 +13,7 @@ use characters::take_part;
 #[derive(Clone, Copy)]
 pub struct WindowsNames;
 
-impl Keyed for WindowsNames {
-    ghost key = { λ _ s. s };
-
-    ghost remaining = { λ _ s. s };
-
-    ghost within = { λ p s h. bytes_bounded s h };
-
-    fn start<'a>(&self, component: &'a [u8]) -> &'a [u8] {
-        component
-    }
-
-    fn advance(&self, rest: &mut &[u8]) -> Option<u32> {
-        take_byte(rest)
-    }
-}
+impl ByBytes for WindowsNames {}
 
 // Whether the second character is a colon.
 fn has_prefix(component: &[u8]) -> bool
@@ -35,22 +21,17 @@ fn has_prefix(component: &[u8]) -> bool
 {
     let mut rest = component;
     let _first = take_part(&mut rest);
-    match take_part(&mut rest) {
-        Some(second) => second.code_point() == 0x3A,
-        None => false,
-    }
+    take_part(&mut rest).is_some_and(|second| second.code_point() == 0x3A)
 }
 
 impl Protection for WindowsNames {
     ghost judged = { λ _ s mode. windows_rule s mode };
 
+    #[tactic(auto, unfolding(crate::specs::Rules::windows_rule))]
     fn verdict(&self, component: &[u8], _mode: Option<Mode>) -> Option<Verdict> {
         if one_of(b'\\', component) {
             return Some(Verdict::PathSeparator);
         }
-        if has_prefix(component) {
-            return Some(Verdict::WindowsPathPrefix);
-        }
-        None
+        has_prefix(component).then_some(Verdict::WindowsPathPrefix)
     }
 }

@@ -1,5 +1,9 @@
 -- Which of several checks decides, by errors of reference names and of tag names.
-use Rattle.std.proofs.Common.{◌≡◌, ℕ, List, Err, sym, refl, subst, Bor}
+use Rattle.std.proofs.Common.{◌≡◌, ℕ, Bool, eqb, List, Err, sym, refl, ap, ◌∙◌, subst, Bor}
+use Rattle.std.specs.Cmp.Lexicographic.{pointwise}
+use Rattle.std.specs.Str.{bytes_eq}
+use Rattle.std.proofs.lemmas.Bool.Decides.{same_from_decides, Decides-eqb}
+use Rattle.std.proofs.lemmas.Slice.Eq.{slice_eq-Decides, bytes_eq-Decides}
 use Rattle.tag.specs.Answers.{Answer, first_of}
 use Rattle.tag.specs.Errors as tag_errors
 use Rattle.tag.specs.declared.Error as tag
@@ -55,3 +59,8 @@ from_tag_lends x tags.StartsWithDot = tt
 from_tag_lends x tags.EndsWithDot = tt
 from_tag_lends x tags.EndsWithSlash = tt
 from_tag_lends x tags.Empty = tt
+
+-- The library's test whether bytes equal a word is that of the definitions.
+pub equals : (s v w : List ℕ) (r : Bool) → r ≡ pointwise eqb s v → v ≡ w → r ≡ bytes_eq s w
+equals s v w r h e =
+    same_from_decides r (bytes_eq s v) (slice_eq-Decides Decides-eqb s v r h) (bytes_eq-Decides s v) ∙ ap (bytes_eq s) e

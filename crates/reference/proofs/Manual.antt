@@ -51,7 +51,6 @@ allows_if (refused m w) t n v h d = (λ e. absurd (never m w e), λ p. h.1 p.0)
 
 -- The tests decide what their names say.
 slash_decides : (s : List ℕ) → Decides (has_slash s) (Among 47 s)
-unfolding has_slash
 slash_decides [] = (λ e. false≢true e, λ m. absurd m)
 slash_decides (b ∷ s) =
     Decides-or (eqb b 47) (has_slash s) (Decides-like (eqb b 47) sym sym (Decides-eqb b 47)) (slash_decides s)
@@ -60,7 +59,6 @@ capital_decides : (b : ℕ) → Decides (capital b) (Capital b)
 capital_decides b = (λ e. grind (arith, nat_tests), λ h. grind (arith, nat_tests))
 
 all_capital_decides : (s : List ℕ) → Decides (all_capital s) ((b : ℕ) → Among b s → Capital b)
-unfolding all_capital
 all_capital_decides [] = (λ _ b m. absurd m, λ _. refl)
 all_capital_decides (a ∷ s) =
     let here = capital_decides a in

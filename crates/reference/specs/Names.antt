@@ -1,5 +1,6 @@
 -- Reference names: the answer for each byte string.
-use Rattle.std.specs.Prelude.{ℕ, Bool, true, false, cond, ◌&&◌, ◌||◌, List, [], ◌∷◌, length, take, codes, ◌==◌, nat_le}
+use Rattle.std.specs.Prelude.{ℕ, Bool, cond, ◌&&◌, ◌||◌, List, length, take, codes, ◌==◌, nat_le}
+use Rattle.std.specs.List.{list_any, list_all}
 use Rattle.std.specs.Str.{bytes_eq}
 use Rattle.tag.specs.Answers.{Answer, first_of}
 use Rattle.tag.specs.Answers.Answer.{allowed, refused}
@@ -7,18 +8,16 @@ use Rattle.tag.specs.Answers.Value.{nothing, name}
 use Rattle.tag.specs.Names.{tag_name}
 
 -- Whether some byte is a slash.
-unfoldable pub has_slash : List ℕ → Bool
-has_slash [] = false
-has_slash (b ∷ s) = b == 47 || has_slash s
+abbrev pub has_slash : List ℕ → Bool
+has_slash s = list_any (λ b. b == 47) s
 
 -- Whether b is one of A to Z or an underscore.
 abbrev pub capital : ℕ → Bool
 capital b = (nat_le 65 b && nat_le b 90) || b == 95
 
 -- Whether each byte is one of A to Z or an underscore.
-unfoldable pub all_capital : List ℕ → Bool
-all_capital [] = true
-all_capital (b ∷ s) = capital b && all_capital s
+abbrev pub all_capital : List ℕ → Bool
+all_capital s = list_all capital s
 
 -- Whether s begins with the bytes w.
 abbrev pub begins : List ℕ → List ℕ → Bool

@@ -2,14 +2,13 @@
 #![tactic(auto)]
 
 ghost use Rattle.std.specs.Prelude.{◌≡◌, ◌≤◌, length, take, is_ok, IfOk, Decides};
-ghost use Rattle.std.specs.Str.{bytes_eq};
 ghost use Rattle.tag.specs.Answers.Answer.{allowed};
 ghost use Rattle.tag.specs.Errors.{number_of};
 ghost use Rattle.mending.specs.Errors.{outcome_of};
 ghost use Rattle.mending.specs.Mender.{buffer_after, mended, outcome, room};
 ghost use Rattle.reference.specs.Errors.{Lends, Shared, answer_of, from_tag, refusal};
 ghost use Rattle.reference.specs.Manual.{BranchRules, CompleteRules, PartialRules};
-ghost use Rattle.reference.specs.Names.{all_capital, begins, branch_name, capital as is_capital, complete as is_complete, complete_name, has_slash, kept_from_branches, partial_name};
+ghost use Rattle.reference.specs.Names.{branch_name, capital as is_capital, complete as is_complete, complete_name, kept_from_branches, partial_name};
 
 pub mod display;
 
@@ -32,6 +31,7 @@ pub enum Error<'a> {
     Reserved(&'a [u8]),
 }
 
+// The cases of both enums are public, so this and `tag_error` list their pairs, each in one direction.
 impl<'a> From<tag::Error> for Error<'a> {
     ghost from_gives = { λ e r. r ≡ from_tag e };
 
@@ -57,25 +57,15 @@ impl Error<'_> {
     pub fn number(&self) -> u8
         ensures { result ≡ number_of (refusal self.now) }
     {
-        match self {
-            Error::InvalidByte(_) => 1,
-            Error::StartsWithSlash => 2,
-            Error::RepeatedSlash => 3,
-            Error::RepeatedDot => 4,
-            Error::LockFileSuffix => 5,
-            Error::ReflogPortion => 6,
-            Error::Asterisk => 7,
-            Error::StartsWithDot => 8,
-            Error::EndsWithDot => 9,
-            Error::EndsWithSlash => 10,
-            Error::Empty => 11,
-            Error::SomeLowercase => 12,
-            Error::Reserved(_) => 13,
+        match self.tag_error() {
+            Some(error) => error.number(),
+            None => match self {
+                Error::SomeLowercase => 12,
+                _ => 13,
+            },
         }
     }
-}
 
-impl Error<'_> {
     /// The same error of a tag name, where tag names have it.
     pub fn tag_error(&self) -> Option<tag::Error>
         ensures { Shared result self.now }
@@ -97,18 +87,6 @@ impl Error<'_> {
     }
 }
 
-/// Whether some byte is a slash.
-fn has_slash(input: &[u8]) -> bool
-    ensures { result ≡ has_slash input.now }
-{
-    for byte in input {
-        if *byte == b'/' {
-            return true;
-        }
-    }
-    false
-}
-
 /// Whether this byte is one of A to Z or an underscore.
 fn capital(byte: u8) -> bool
     ensures { result ≡ is_capital byte }
@@ -116,44 +94,18 @@ fn capital(byte: u8) -> bool
     matches!(byte, b'A'..=b'Z' | b'_')
 }
 
-/// Whether each byte is one of A to Z or an underscore.
-fn all_capital(input: &[u8]) -> bool
-    ensures { result ≡ all_capital input.now }
-{
-    for byte in input {
-        if !capital(*byte) {
-            return false;
-        }
-    }
-    true
-}
-
 /// Whether a partial name is complete: it has a slash, or it is all of A to Z and underscores.
 fn complete(input: &[u8]) -> bool
     ensures { result ≡ is_complete input.now }
 {
-    has_slash(input) || all_capital(input)
-}
-
-/// Whether `input` is this word.
-fn is_word(input: &[u8], word: &[u8]) -> bool
-    ensures { result ≡ bytes_eq input.now word.now }
-{
-    input == word
-}
-
-/// Whether `input` begins with this word.
-fn begins_with(input: &[u8], word: &[u8]) -> bool
-    ensures { result ≡ begins word.now input.now }
-{
-    input.starts_with(word)
+    input.contains(&b'/') || input.iter().all(|byte| capital(*byte))
 }
 
 /// Whether no branch may have the name: `refs/heads/HEAD`, and a branch that begins with a dash.
 fn kept_from_branches(input: &[u8]) -> bool
     ensures { result ≡ kept_from_branches input.now }
 {
-    is_word(input, b"refs/heads/HEAD") || begins_with(input, b"refs/heads/-")
+    input == b"refs/heads/HEAD".as_slice() || input.starts_with(b"refs/heads/-")
 }
 
 /// Whether `input` is an allowed partial name: then it is the answer itself, and else the first refusal is.
@@ -163,7 +115,7 @@ pub fn name_partial(input: &[u8]) -> Result<&[u8], Error<'_>>
     ensures manual { Decides (is_ok result) (PartialRules input.now) }
 {
     tag::name(input)?;
-    if is_word(input, b"@") {
+    if input == b"@".as_slice() {
         return Err(Error::Reserved(input));
     }
     Ok(input)

@@ -1,13 +1,15 @@
 -- What each call answers, check by check, and which entries it leaves.
-use Rattle.std.proofs.Common.{◌≡◌, ℕ, ◌<◌, ◌≤◌, List, length, Some, None, Option, sym, ap, ◌∙◌}
+use Rattle.std.proofs.Common.{◌≡◌, ℕ, ◌<◌, ◌≤◌, List, length, Some, None, Ok, Err, Option, refl, sym, ap, ◌∙◌}
 use Rattle.std.proofs.lemmas.Bool.{le-leb, lt-leb}
+use Rattle.std.specs.Option.{ok_or}
 use Rattle.protections.specs.declared.rules.Mode.{Mode}
 use Rattle.claims.specs.Entries.{place_of, put, slot, strike}
 use Rattle.claims.specs.Calls.{Call, Fault, Kept, Meaning, Outcome, after_by, answer, changed, entering, entries_after, first_meeting, name_fault, number_at, offering, removing, renaming}
 use Rattle.claims.specs.Calls.Call.{enter, offer}
 use Rattle.claims.specs.Calls.Fault.{by_state}
 use Rattle.claims.specs.Calls.Outcome.{accepted, declined}
-use Rattle.register.specs.Rows.{renamed, without}
+use Rattle.std.specs.List.{remove}
+use Rattle.register.specs.Entries.{renamed}
 use Rattle.register.proofs.Striking.{Stands}
 
 module _ (m : Meaning) (es : Kept) where
@@ -73,15 +75,15 @@ module _ (m : Meaning) (es : Kept) where
 
         -- It is renamed.
         pub rename_accepted : None ≡ first_meeting m.together (Some old) new es → Stands old es from
-            → accepted (slot new (without from es)) ≡ renaming m es old new mode
+            → accepted (slot new (remove es from)) ≡ renaming m es old new mode
         unfolding renaming
         rename_accepted e s = rw (← fine, ← at_from, ← e) (ap (λ z. accepted (slot new z)) (sym s.struck))
 
   -- The entry that is put in when a name is renamed.
   pub renamed_entry : (old new : List ℕ) (mode : Option Mode) (from : ℕ) → Stands old es from
-      → put (renamed es from new mode) (without from es) ≡ put (record { name = new; number = number_at old es; mode = mode }) (strike old es)
+      → put (renamed es from new mode) (remove es from) ≡ put (record { name = new; number = number_at old es; mode = mode }) (strike old es)
   renamed_entry old new mode from s =
-      ap (λ n. put (record { name = new; number = n; mode = mode }) (without from es)) (sym s.numbered)
+      ap (λ n. put (record { name = new; number = n; mode = mode }) (remove es from)) (sym s.numbered)
       ∙ ap (put (record { name = new; number = number_at old es; mode = mode })) (sym s.struck)
 
   -- Offer: the text is too long.
@@ -107,3 +109,12 @@ module _ (m n : Meaning) (es : Kept) (alike : (z : List ℕ) → entering n es z
   offer_leaves k fs a =
       a ∙ (ap (λ z. after_by (entering n es z None) es (put (record { name = z; number = k; mode = None }) es)) e
       ∙ ap (λ o. after_by o es (put (record { name = m.mended text; number = k; mode = None }) es)) offers_as)
+
+-- A place that is asked for, or else a refusal.
+pub place_kept : {E : Type 0} (o : Option ℕ) (e : E) (p : ℕ) → ok_or o e ≡ Ok p → Some p ≡ o
+place_kept None e p h = cc
+place_kept (Some q) e p h = cc
+
+pub place_refused : {E : Type 0} (o : Option ℕ) (e f : E) → ok_or o e ≡ Err f → (None ≡ o) × (f ≡ e)
+place_refused None e f h = (refl, cc)
+place_refused (Some q) e f h = cc

@@ -1,5 +1,5 @@
 -- What is wrong with a name by itself, check by check.
-use Rattle.std.proofs.Common.{◌≡◌, ℕ, ◌<◌, ◌≤◌, List, length, Some, None, Option, sym, ap, ◌∙◌, ⊎_elim, arith}
+use Rattle.std.proofs.Common.{◌≡◌, ℕ, ◌<◌, ◌≤◌, List, length, Some, None, Option, sym, ap, ◌∙◌, ⊎_elim}
 use Rattle.std.proofs.lemmas.Bool.{cases_lt, cond-false, cond-true, le-leb, lt-leb}
 use Rattle.tag.specs.Components.{components}
 use Rattle.protections.specs.declared.rules.Mode.{Mode}
@@ -30,6 +30,6 @@ module _ (m : Meaning) (x : List ℕ) (mode : Option Mode) where
 pub fine_short : (m : Meaning) (x : List ℕ) (mode : Option Mode) → None ≡ name_fault m x mode → length x ≤ 255
 fine_short m x mode e =
     ⊎_elim
-    (λ l. let q : None ≡ Some (by_state 32 0) = e ∙ sym (too_long m x mode l) in let z : ◌≡◌ {A = ℕ} 0 1 = cc in absurd (omega arith))
+    (λ l. let q : None ≡ Some (by_state 32 0) = e ∙ sym (too_long m x mode l) in cc)
     (λ h. h)
     (cases_lt 255 (length x))

@@ -1,21 +1,22 @@
 -- An entry taken out by its name, and by its place.
-use Rattle.std.proofs.Common.{◌≡◌, ℕ, suc, ◌+◌, ◌<◌, true, false, List, [], ◌∷◌, ◌++◌, length, take, drop, Some, None, Option, refl, ap, ◌∙◌, subst, ⊎_elim, arith}
+use Rattle.std.proofs.Common.{◌≡◌, ℕ, suc, ◌<◌, true, false, List, [], ◌∷◌, length, Some, None, Option, refl, ap, subst, ⊎_elim, arith}
 use Rattle.std.specs.Option.{option_map}
 use Rattle.std.specs.Str.{bytes_eq}
 use Rattle.std.proofs.lemmas.Bool.{cases_Bool}
 use Rattle.protections.specs.declared.rules.Mode.{Mode}
 use Rattle.claims.specs.Calls.{Kept, number_at}
 use Rattle.claims.specs.Entries.{Entry, first_place, place_of, strike}
-use Rattle.register.specs.Rows.{number_in, without}
+use Rattle.std.specs.List.{remove}
+use Rattle.register.specs.Entries.{number_in}
 
 -- The name x stands at the place p among es.
 pub record Stands (x : List ℕ) (es : Kept) (p : ℕ) : Type 0 where
-  pub struck : strike x es ≡ without p es
+  pub struck : strike x es ≡ remove es p
   pub numbered : number_at x es ≡ number_in p es
   pub inside : p < length es
 
 place_after : (o : Option ℕ) (p : ℕ) → option_map suc o ≡ Some p → (k : ℕ) × (o ≡ Some k) × (suc k ≡ p)
-place_after None p e = let z : ◌≡◌ {A = ℕ} 0 1 = cc in absurd (omega arith)
+place_after None p e = cc
 place_after (Some k) p e = let s : suc k ≡ p = cc in (k, refl, s)
 
 module _ (x : List ℕ) (e : Entry (Option Mode)) (es : Kept) where
@@ -26,10 +27,9 @@ module _ (x : List ℕ) (e : Entry (Option Mode)) (es : Kept) where
   stands_later : (k : ℕ) → bytes_eq e.name x ≡ false → Stands x es k → Stands x (e ∷ es) (suc k)
   unfolding strike number_at number_in
   stands_later k f s =
-      let n : suc (k + 1) ≡ suc k + 1 = omega arith in
       let l = s.inside in
       record {
-        struck = rw f (ap (λ t. e ∷ t) (s.struck ∙ ap (λ z. take k es ++ drop z (e ∷ es)) n));
+        struck = rw f (ap (λ t. e ∷ t) s.struck);
         numbered = rw f s.numbered;
         inside = omega arith;
       }
@@ -37,7 +37,7 @@ module _ (x : List ℕ) (e : Entry (Option Mode)) (es : Kept) where
 -- A name that has a place stands there.
 pub stands : (x : List ℕ) (es : Kept) (p : ℕ) → place_of x es ≡ Some p → Stands x es p
 unfolding first_place
-stands x [] p h = let z : ◌≡◌ {A = ℕ} 0 1 = cc in absurd (omega arith)
+stands x [] p h = cc
 stands x (e ∷ es) p h =
     ⊎_elim
     (λ t. let q : Some 0 ≡ Some p = rw t at h in let z : 0 ≡ p = cc in subst (Stands x (e ∷ es)) z (stands_first x e es t))

@@ -8,7 +8,7 @@ use Rattle.register.specs.declared.Register.{Register}
 -- Of a rulebook that mends no text: there are no offers, so what a text is mended to does not matter.
 abbrev pub meaning_of : {R F : Type 0} → rulebook.Ghosts R → interface.Ghosts F → F → Meaning
 meaning_of r f files = record {
-  kind = r.kind;
+  kind = r.KIND;
   ruled = r.meaning;
   mended = λ s. s;
   judged = f.judged files;
@@ -19,7 +19,7 @@ meaning_of r f files = record {
 -- Of a mending rulebook, with what it mends a text to.
 abbrev pub mending_meaning : {R F : Type 0} → rulebook.Ghosts R → (List ℕ → List ℕ) → interface.Ghosts F → F → Meaning
 mending_meaning r mended f files = record {
-  kind = r.kind;
+  kind = r.KIND;
   ruled = r.meaning;
   mended = mended;
   judged = f.judged files;

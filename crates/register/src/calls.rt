@@ -7,13 +7,13 @@ ghost use Rattle.register.specs.Meanings.{meaning_in};
 ghost use Rattle.register.specs.Registers.{SameRules, entries_in};
 
 use crate::Register;
-use crate::checks::check_name;
 use crate::faults::{Fault, StateFault};
-use crate::table::{CAPACITY, Name, Row, Table, no_name};
+use crate::table::{Row, Table};
 use filesystems::FileSystem;
 use protections::Mode;
 use rulebooks::Rulebook;
 
+// The calls repeat four clauses: each says one fact, and a record of them would take the answer, the meaning, the entries and the call.
 impl<R: Rulebook, F: FileSystem> Register<R, F> {
     /// A register with no entry.
     pub fn new(rules: R, files: F) -> Register<R, F>
@@ -34,16 +34,18 @@ impl<R: Rulebook, F: FileSystem> Register<R, F> {
         ensures same_rules { SameRules self.old self.new }
         ensures unaltered { OnErr result (self.new ≡ self.old) }
     {
-        check_name(&self.rules, &self.files, name, mode)?;
-        if let Some(place) = self.table.first_meeting(&self.files, name, no_name()) {
-            return Err(Fault::State(StateFault::Met { place }));
+        let kept = self.checked(name, mode)?;
+        if let Some(place) = self.table.first_meeting(&self.files, name, None) {
+            return Err(StateFault::Met { place }.into());
         }
-        if self.table.count() == CAPACITY {
-            return Err(Fault::State(StateFault::Full));
+        if self.table.is_full() {
+            return Err(StateFault::Full.into());
         }
-        let place = self.table.slot(name);
-        self.table
-            .insert(place, Row::new(Name::new(name), number, mode));
+        let place = self.table.put(Row {
+            name: kept,
+            number,
+            mode,
+        });
         Ok(place)
     }
 
@@ -54,14 +56,12 @@ impl<R: Rulebook, F: FileSystem> Register<R, F> {
         ensures same_rules { SameRules self.old self.new }
         ensures unaltered { OnErr result (self.new ≡ self.old) }
     {
-        check_name(&self.rules, &self.files, new, mode)?;
-        let Some(from) = self.table.place_of(old) else {
-            return Err(Fault::State(StateFault::NotKept));
-        };
+        let kept = self.checked(new, mode)?;
+        let from = self.table.place_of(old).ok_or(StateFault::NotKept)?;
         if let Some(place) = self.table.first_meeting(&self.files, new, Some(old)) {
-            return Err(Fault::State(StateFault::Met { place }));
+            return Err(StateFault::Met { place }.into());
         }
-        Ok(self.table.rename(from, new, mode))
+        Ok(self.table.rename(from, kept, mode))
     }
 
     /// Takes a name out, and answers the place that it had.
@@ -71,9 +71,7 @@ impl<R: Rulebook, F: FileSystem> Register<R, F> {
         ensures same_rules { SameRules self.old self.new }
         ensures unaltered { OnErr result (self.new ≡ self.old) }
     {
-        let Some(place) = self.table.place_of(name) else {
-            return Err(Fault::State(StateFault::NotKept));
-        };
+        let place = self.table.place_of(name).ok_or(StateFault::NotKept)?;
         self.table.remove(place);
         Ok(place)
     }

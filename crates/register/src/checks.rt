@@ -1,18 +1,25 @@
 //! What is wrong with a name and its mode by themselves.
-ghost use Rattle.std.specs.Prelude.{◌≡◌, None as no_fault};
+ghost use Rattle.std.specs.Prelude.{◌≡◌, ◌<◌, ◌≤◌, length, IfOk, MatchResult, None as no_fault};
 ghost use Rattle.tag.specs.Components.{components};
 ghost use Rattle.claims.specs.Calls.{first_verdict, name_fault, or_else};
 ghost use Rattle.register.specs.Faults.{fault_of};
+ghost use Rattle.register.specs.declared.faults.StateFault.TheVariants.{TooLong as too_long};
 ghost use Rattle.register.specs.Meanings.{meaning_of};
 
+use crate::Register;
 use crate::faults::{Fault, StateFault};
+use crate::table::Name;
 use filesystems::FileSystem;
 use protections::Mode;
-use rulebooks::trees::component_end;
 use rulebooks::{Rulebook, ask};
+use tag::components::Components;
 
-/// The most bytes that a kept name has.
-pub(crate) const LONGEST: usize = 255;
+/// The name as it is kept, unless it is too long.
+fn kept_name(name: &[u8]) -> Result<Name, StateFault>
+    ensures { MatchResult result (λ kept. (kept.items ≡ name.now) × (length name.now ≤ 255)) (λ fault. (255 < length name.now) × (fault ≡ too_long)) }
+{
+    Name::try_from(name).map_err(|_| StateFault::TooLong)
+}
 
 /// The verdict on the component at this index.
 fn judge<F: FileSystem>(
@@ -30,34 +37,26 @@ fn judge<F: FileSystem>(
 }
 
 /// The verdicts on the components from the left: the mode is the last one's, and earlier ones have none.
-fn judge_components<F: FileSystem>(files: &F, name: &[u8], mode: Option<Mode>) -> Result<(), Fault>
-    ensures { fault_of result ≡ first_verdict (F.FileSystem.judged files.now) mode 0 (components name.now) }
+fn judge_components<F: FileSystem>(files: &F, name: &Name, mode: Option<Mode>) -> Result<(), Fault>
+    ensures { fault_of result ≡ first_verdict (F.FileSystem.judged files.now) mode 0 (components name.now.items) }
 {
-    let mut rest = name;
-    let mut index = 0;
-    loop {
-        let end = component_end(rest);
-        if end == rest.len() {
-            return judge(files, rest, mode, index);
-        }
-        judge(files, &rest[0..end], None, index)?;
-        rest = &rest[end + 1..];
-        index += 1;
+    let last = Components::of(name).count() - 1;
+    for (index, component) in Components::of(name).enumerate() {
+        let own = if index == last { mode } else { None };
+        judge(files, component, own, index)?;
     }
+    Ok(())
 }
 
-/// Checks a name by itself: its length, the rulebook, and the verdicts on its components.
-pub(crate) fn check_name<R: Rulebook, F: FileSystem>(
-    rules: &R,
-    files: &F,
-    name: &[u8],
-    mode: Option<Mode>,
-) -> Result<(), Fault>
-    ensures { fault_of result ≡ name_fault (meaning_of R.Rulebook F.FileSystem files.now) name.now mode }
-{
-    if name.len() > LONGEST {
-        return Err(Fault::State(StateFault::TooLong));
+impl<R: Rulebook, F: FileSystem> Register<R, F> {
+    /// Checks a name by itself: its length, the rulebook, and the verdicts on its components. The answer is the name as it is kept.
+    pub(crate) fn checked(&self, name: &[u8], mode: Option<Mode>) -> Result<Name, Fault>
+        ensures fault { fault_of result ≡ name_fault (meaning_of R.Rulebook F.FileSystem self.now.files) name.now mode }
+        ensures name { IfOk result (λ kept. kept.items ≡ name.now) }
+    {
+        let kept = kept_name(name)?;
+        ask(&self.rules, name)?;
+        judge_components(&self.files, &kept, mode)?;
+        Ok(kept)
     }
-    ask(rules, name)?;
-    judge_components(files, name, mode)
 }

@@ -5,12 +5,14 @@ use table::Table;
 
 mod calls;
 mod checks;
+mod entries;
 pub mod faults;
 pub mod meeting;
 mod offers;
 mod questions;
 mod table;
 
+pub use entries::Entries;
 pub use questions::Entry;
 
 /// Entries, each a name of at most 255 bytes, a number and a mode, in ascending order of the bytes of their names. The names

@@ -7,8 +7,8 @@ ghost use Rattle.register.specs.Meanings.{mending_meaning_in};
 ghost use Rattle.register.specs.Registers.{SameRules, entries_in};
 
 use crate::Register;
-use crate::checks::LONGEST;
 use crate::faults::{Fault, StateFault};
+use crate::table::LONGEST;
 use filesystems::FileSystem;
 use rulebooks::{MendingRulebook, mend_into};
 
@@ -21,12 +21,11 @@ impl<R: MendingRulebook, F: FileSystem> Register<R, F> {
         ensures unaltered { OnErr result (self.new ≡ self.old) }
     {
         if text.len() > LONGEST {
-            return Err(Fault::State(StateFault::TooLong));
+            return Err(StateFault::TooLong.into());
         }
+        // The length is used at once, where a vector of fixed capacity would be filled and cut back by one line more.
         let mut buffer = [0; LONGEST];
-        let Ok(length) = mend_into(&self.rules, text, &mut buffer) else {
-            unreachable()
-        };
-        self.enter(&buffer[0..length], number, None)
+        let length = mend_into(&self.rules, text, &mut buffer).unwrap();
+        self.enter(&buffer[..length], number, None)
     }
 }

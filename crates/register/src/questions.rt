@@ -8,12 +8,12 @@ ghost use Rattle.claims.specs.Entries.{place_of};
 ghost use Rattle.claims.specs.Words.{FirstMet};
 ghost use Rattle.register.specs.Faults.{fault_in};
 ghost use Rattle.register.specs.Registers.{entries_in};
+ghost use Rattle.register.specs.Rows.{entry_of};
 ghost use Rattle.register.specs.Shown.{shown};
 
 use crate::Register;
-use crate::checks::LONGEST;
 use crate::faults::{Fault, StateFault};
-use crate::table::no_name;
+use crate::table::{LONGEST, Row};
 use filesystems::FileSystem;
 use protections::Mode;
 use rulebooks::Rulebook;
@@ -24,6 +24,18 @@ pub struct Entry<'a> {
     pub name: &'a [u8],
     pub number: u32,
     pub mode: Option<Mode>,
+}
+
+impl<'a> From<&'a Row> for Entry<'a> {
+    ghost from_gives = { λ row entry. shown entry ≡ entry_of row.now };
+
+    fn from(row: &'a Row) -> Entry<'a> {
+        Entry {
+            name: row.name.as_slice(),
+            number: row.number,
+            mode: row.mode,
+        }
+    }
 }
 
 impl<R: Rulebook, F: FileSystem> Register<R, F> {
@@ -47,18 +59,15 @@ impl<R: Rulebook, F: FileSystem> Register<R, F> {
         ensures words { IfOk result (FirstMet (F.FileSystem.together self.now.files) name.now (entries_in self.now)) }
     {
         if name.len() > LONGEST {
-            return Err(Fault::State(StateFault::TooLong));
+            return Err(StateFault::TooLong.into());
         }
-        Ok(self.table.first_meeting(&self.files, name, no_name()))
+        Ok(self.table.first_meeting(&self.files, name, None))
     }
 
     /// The entry at a place, if there is one.
     pub fn entry(&self, place: usize) -> Option<Entry<'_>>
         ensures { option_map shown result ≡ slice_get (entries_in self.now) place }
     {
-        match self.table.row(place) {
-            Some(row) => Some(row.entry()),
-            None => None,
-        }
+        self.table.row(place).map(Entry::from)
     }
 }

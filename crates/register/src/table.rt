@@ -1,40 +1,138 @@
-//! A table of at most 128 rows, each a name of at most 255 bytes, a number and a mode.
-ghost use Rattle.std.specs.Prelude.{◌≡◌, ◌≤◌, length};
+//! A table of at most 128 rows, each a name of at most 255 bytes, a number and a mode, in ascending order of the bytes of their names.
+ghost use Rattle.std.specs.Prelude.{◌≡◌, ◌<◌, ◌≤◌, ◌↔◌, [], length, map, IsTrue, remove, slice_get};
+ghost use Rattle.std.specs.Option.{option_map};
+ghost use Rattle.std.specs.Slice.Iter.{iter_rest};
+ghost use Rattle.claims.specs.Entries.{place_of, put, slot};
+ghost use Rattle.register.specs.Entries.{renamed};
 
+use arrayvec::ArrayVec;
 use protections::Mode;
+use std::marker::Model;
+use std::slice;
 
 mod met;
-mod names;
-mod order;
-mod places;
-mod search;
-
-pub(crate) use met::no_name;
 
 /// How many rows there may be.
 pub(crate) const CAPACITY: usize = 128;
 
-/// A name of at most 255 bytes: the first `len` of them.
-#[derive(Clone, Copy)]
-pub struct Name {
-    bytes: [u8; 255],
-    len: u8,
-    ghost room: { length bytes ≡ 255 },
-}
+/// The most bytes that a kept name has.
+pub(crate) const LONGEST: usize = 255;
+
+/// A name of at most 255 bytes.
+pub(crate) type Name = ArrayVec<u8, LONGEST>;
 
 /// A name with its number and mode.
-#[derive(Clone, Copy)]
+#[derive(Default, Drop)]
 pub struct Row {
-    name: Name,
-    number: u32,
-    mode: Option<Mode>,
+    pub(crate) name: Name,
+    pub(crate) number: u32,
+    pub(crate) mode: Option<Mode>,
 }
 
-/// At most 128 rows, in places from 0.
+/// At most 128 rows, in places from 0. Callers see their entries.
 #[derive(Drop)]
 pub struct Table {
-    rows: [Row; 128],
-    count: usize,
-    ghost room: { length rows ≡ 128 },
-    ghost counted: { count ≤ 128 },
+    rows: ArrayVec<Row, CAPACITY>,
+}
+
+impl Model for Table {
+    ghost use Rattle.std.specs.Prelude.{map};
+    ghost use Rattle.claims.specs.Calls.{Kept};
+    ghost use Rattle.register.specs.Rows.{entry_of};
+    ghost use Rattle.register.specs.Entries.{InOrder};
+
+    ghost Value = { Kept };
+
+    ghost view = { λ t. map entry_of t.rows.items };
+
+    ghost invariant = { λ t. InOrder (map entry_of t.rows.items) };
+}
+
+impl Table {
+    ghost use Rattle.register.specs.Rows.{entry_of};
+
+    /// No rows.
+    pub(crate) fn new() -> Table
+        ensures { result ≡ [] }
+    {
+        Table {
+            rows: ArrayVec::new(),
+        }
+    }
+
+    /// How many rows there are.
+    pub(crate) fn count(&self) -> usize
+        ensures { result ≡ length self.now }
+    {
+        self.rows.len()
+    }
+
+    /// Whether there is no room for another row.
+    pub(crate) fn is_full(&self) -> bool
+        ensures { IsTrue result ↔ (128 ≤ length self.now) }
+    {
+        self.rows.is_full()
+    }
+
+    /// The row at a place, if there is one.
+    pub(crate) fn row(&self, place: usize) -> Option<&Row>
+        ensures { option_map (λ row. entry_of row.now) result ≡ slice_get self.now place }
+    {
+        self.rows.get(place)
+    }
+
+    /// The rows, in the order of their places.
+    pub(crate) fn rows(&self) -> slice::Iter<'_, Row>
+        ensures { map entry_of (iter_rest result) ≡ self.now }
+    {
+        self.rows.iter()
+    }
+
+    /// How many names come before this one: the place that it has or would have.
+    pub(crate) fn slot(&self, name: &[u8]) -> usize
+        ensures { result ≡ slot name.now self.now }
+    {
+        self.rows.partition_point(|row| row.name.as_slice() < name)
+    }
+
+    /// The place of the row with this name, if there is one.
+    pub(crate) fn place_of(&self, name: &[u8]) -> Option<usize>
+        ensures { result ≡ place_of name.now self.now }
+    {
+        let place = self.slot(name);
+        let row = self.rows.get(place)?;
+        (row.name.as_slice() == name).then_some(place)
+    }
+
+    /// Puts a row in at the place of its name, which is the answer.
+    pub(crate) fn put(&mut self, row: Row) -> usize
+        requires { length self.old < 128 }
+        ensures place { result ≡ slot row.name.items self.old }
+        ensures entries { self.new ≡ put (entry_of row) self.old }
+    {
+        let place = self.slot(&row.name);
+        self.rows.insert(place, row);
+        place
+    }
+
+    /// Takes the row at a place out.
+    pub(crate) fn remove(&mut self, place: usize)
+        requires { place < length self.old }
+        ensures { self.new ≡ remove self.old place }
+    {
+        self.rows.remove(place);
+    }
+
+    /// Gives the row at a place another name and mode, and moves it to the place of that name, which is the answer. Its number stays.
+    pub(crate) fn rename(&mut self, from: usize, name: Name, mode: Option<Mode>) -> usize
+        requires { from < length self.old }
+        ensures place { result ≡ slot name.items (remove self.old from) }
+        ensures entries { self.new ≡ put (renamed self.old from name.items mode) (remove self.old from) }
+    {
+        let row = &mut self.rows[from];
+        row.name = name;
+        row.mode = mode;
+        let row = self.rows.remove(from);
+        self.put(row)
+    }
 }

@@ -1,142 +1,69 @@
 //! One recorded call against the port.
-use crate::hex;
-use path::{Mode, Options};
+use crate::record::{Call, Recorded, bytes_of};
 use reference::Error;
 use std::alloc::{AllocError, Global};
-use std::str::Split;
 
-/// Whether the text writes this number.
-fn writes(text: &str, number: u8) -> bool {
-    match text.parse::<u8>() {
-        Ok(read) => read == number,
-        Err(_) => false,
-    }
+/// Whether the text writes these bytes.
+fn spells(heap: Global, text: &str, bytes: &[u8]) -> Result<bool, AllocError> {
+    Ok(bytes_of(heap, text)?.is_some_and(|read| read.as_slice() == bytes))
 }
 
-/// Whether the text writes these bytes; an absent text writes none.
-fn spells(heap: Global, text: Option<&str>, bytes: &[u8]) -> Result<bool, AllocError> {
-    match text {
-        None => Ok(bytes.is_empty()),
-        Some(hex) => match hex::read(heap, hex)? {
-            Some(read) => Ok(read.as_slice() == bytes),
-            None => Ok(false),
-        },
+impl Recorded<'_> {
+    /// Whether the recorded answer is this number.
+    fn has_number(&self, number: u8) -> bool {
+        self.answer.parse::<u8>().is_ok_and(|read| read == number)
     }
-}
 
-/// Whether a check of reference names answers as recorded.
-fn names(
-    heap: Global,
-    res: Result<&[u8], Error<'_>>,
-    number: &str,
-    value: Option<&str>,
-) -> Result<bool, AllocError> {
-    match res {
-        Ok(_) => Ok(writes(number, 0) && value.is_none()),
-        Err(error) => {
-            let told = writes(number, error.number());
-            let carried = match error {
-                Error::InvalidByte(byte) => spells(heap, value, &[byte])?,
-                Error::Reserved(name) => spells(heap, value, name)?,
-                _ => value.is_none(),
-            };
-            Ok(told && carried)
+    /// Whether the recorded value is these bytes; an absent value is none.
+    fn has_value(&self, heap: Global, bytes: &[u8]) -> Result<bool, AllocError> {
+        spells(heap, self.value.unwrap_or("-"), bytes)
+    }
+
+    /// Whether a check of names answers as recorded.
+    fn is_name(&self, heap: Global, res: Result<&[u8], Error<'_>>) -> Result<bool, AllocError> {
+        let Err(error) = res else {
+            return Ok(self.has_number(0) && self.value.is_none());
+        };
+        let carried = match error {
+            Error::InvalidByte(byte) => self.has_value(heap, &[byte])?,
+            Error::Reserved(name) => self.has_value(heap, name)?,
+            _ => self.value.is_none(),
+        };
+        Ok(self.has_number(error.number()) && carried)
+    }
+
+    /// Whether the port answers the recorded call on this input as recorded.
+    fn is_answer(&self, heap: Global, input: &[u8]) -> Result<bool, AllocError> {
+        match self.call {
+            Call::TagName => self.is_name(heap, tag_name(input)),
+            Call::PartialName => self.is_name(heap, reference::name_partial(input)),
+            Call::CompleteName => self.is_name(heap, reference::name(input)),
+            Call::BranchName => self.is_name(heap, reference::branch_name(input)),
+            Call::Mend => spells(heap, self.answer, handling::handle(heap, input)?.as_slice()),
+            Call::WindowsDevice => {
+                let device = path::component_is_windows_device(input);
+                Ok(self.has_number(u8::from(device)))
+            }
+            Call::Component(mode, options) => {
+                let refusal = path::component(input, mode, options).err();
+                Ok(self.has_number(refusal.map_or(0, |error| error.number())))
+            }
         }
     }
 }
 
-/// Whether the check of tag names answers as recorded.
-fn tags(heap: Global, input: &[u8], number: &str, value: Option<&str>) -> Result<bool, AllocError> {
-    match tag::name(input) {
-        Ok(_) => Ok(writes(number, 0) && value.is_none()),
-        Err(error) => {
-            let told = writes(number, error.number());
-            let carried = match error {
-                tag::Error::InvalidByte(byte) => spells(heap, value, &[byte])?,
-                _ => value.is_none(),
-            };
-            Ok(told && carried)
-        }
-    }
+/// The check of tag names, with its error as that of a reference name.
+fn tag_name(input: &[u8]) -> Result<&[u8], Error<'_>> {
+    Ok(tag::name(input)?)
 }
 
-/// Whether the check of components answers as recorded, under the settings `lwhn` of link, Windows, HFS+ and NTFS.
-fn components(input: &[u8], settings: &str, number: &str) -> bool {
-    let [link, windows, hfs, ntfs] = settings.as_bytes() else {
-        return false;
-    };
-    let mode = if *link == b'l' {
-        Some(Mode::Symlink)
-    } else {
-        None
-    };
-    let options = Options {
-        protect_windows: *windows == b'w',
-        protect_hfs: *hfs == b'h',
-        protect_ntfs: *ntfs == b'n',
-    };
-    match path::component(input, mode, options) {
-        Ok(_) => writes(number, 0),
-        Err(error) => writes(number, error.number()),
-    }
-}
-
-/// Whether a call with one input and no settings answers as recorded.
-fn call(
-    heap: Global,
-    letter: &str,
-    input: &[u8],
-    answer: &str,
-    value: Option<&str>,
-) -> Result<bool, AllocError> {
-    match letter {
-        "t" => tags(heap, input, answer, value),
-        "p" => names(heap, reference::name_partial(input), answer, value),
-        "n" => names(heap, reference::name(input), answer, value),
-        "b" => names(heap, reference::branch_name(input), answer, value),
-        "m" => spells(
-            heap,
-            Some(answer),
-            handling::handle(heap, input)?.as_slice(),
-        ),
-        "d" => Ok(writes(
-            answer,
-            if path::component_is_windows_device(input) {
-                1
-            } else {
-                0
-            },
-        )),
-        _ => Ok(false),
-    }
-}
-
-/// Whether the check of components answers as the fields say: the settings, the input and the answer.
-fn replayed_component(heap: Global, mut fields: Split<'_, char>) -> Result<bool, AllocError> {
-    let (Some(settings), Some(hex), Some(answer)) = (fields.next(), fields.next(), fields.next())
-    else {
+/// Whether the port answers as the line says.
+pub(crate) fn is_replayed(heap: Global, line: &str) -> Result<bool, AllocError> {
+    let Some(recorded) = Recorded::parse(line) else {
         return Ok(false);
     };
-    match hex::read(heap, hex)? {
-        Some(input) => Ok(components(input.as_slice(), settings, answer)),
-        None => Ok(false),
-    }
-}
-
-/// Whether the port answers as the line says: a letter, for components the settings, the input, and the answer.
-pub(crate) fn replayed(heap: Global, line: &str) -> Result<bool, AllocError> {
-    let mut fields = line.split(' ');
-    let Some(letter) = fields.next() else {
-        return Ok(false);
-    };
-    if letter == "c" {
-        return replayed_component(heap, fields);
-    }
-    let (Some(hex), Some(answer)) = (fields.next(), fields.next()) else {
-        return Ok(false);
-    };
-    match hex::read(heap, hex)? {
-        Some(input) => call(heap, letter, input.as_slice(), answer, fields.next()),
+    match bytes_of(heap, recorded.input)? {
+        Some(input) => recorded.is_answer(heap, input.as_slice()),
         None => Ok(false),
     }
 }

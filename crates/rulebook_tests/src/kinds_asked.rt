@@ -1,7 +1,7 @@
 //! The rulebooks on examples.
-use rulebooks::names::{PartialNames, branch_name, complete_name, partial_name, tag_name};
-use rulebooks::trees::tree_path;
-use rulebooks::{MendingRulebook, Refusal, Rulebook, RulebookFault};
+use rulebooks::names::{BranchNames, CompleteNames, PartialNames, TagNames};
+use rulebooks::trees::{TreePaths, tree_path};
+use rulebooks::{MendingRulebook, Refusal, Rulebook, RulebookFault, ask_by_manual};
 
 fn refused(kind: u8, number: u8, value: usize) -> Result<(), RulebookFault> {
     Err(RulebookFault {
@@ -12,36 +12,33 @@ fn refused(kind: u8, number: u8, value: usize) -> Result<(), RulebookFault> {
 
 #[test]
 fn kinds(rt: HostRuntime) {
-    assert_eq!(rt; <PartialNames as Rulebook>::kind_number(), 1);
-    assert_eq!(rt;
-        <rulebooks::names::CompleteNames as Rulebook>::kind_number(),
-        2
-    );
-    assert_eq!(rt;
-        <rulebooks::names::BranchNames as Rulebook>::kind_number(),
-        3
-    );
-    assert_eq!(rt; <rulebooks::names::TagNames as Rulebook>::kind_number(), 4);
-    assert_eq!(rt; <rulebooks::trees::TreePaths as Rulebook>::kind_number(), 5);
+    assert_eq!(rt; PartialNames::KIND, 1);
+    assert_eq!(rt; CompleteNames::KIND, 2);
+    assert_eq!(rt; BranchNames::KIND, 3);
+    assert_eq!(rt; TagNames::KIND, 4);
+    assert_eq!(rt; TreePaths::KIND, 5);
 }
 
 #[test]
 fn partial_names(rt: HostRuntime) {
-    assert_eq!(rt; partial_name(b"staff/Smith"), Ok(()));
-    assert_eq!(rt; partial_name(b"/"), refused(1, 10, 0));
-    assert_eq!(rt; partial_name(b"@"), refused(1, 13, 0));
-    assert_eq!(rt; partial_name(b".lock/x"), refused(1, 5, 0));
-    assert_eq!(rt; partial_name(b".a b"), refused(1, 1, 0x20));
+    assert_eq!(rt; ask_by_manual(&PartialNames, b"staff/Smith"), Ok(()));
+    assert_eq!(rt; ask_by_manual(&PartialNames, b"/"), refused(1, 10, 0));
+    assert_eq!(rt; ask_by_manual(&PartialNames, b"@"), refused(1, 13, 0));
+    assert_eq!(rt; ask_by_manual(&PartialNames, b".lock/x"), refused(1, 5, 0));
+    assert_eq!(rt; ask_by_manual(&PartialNames, b".a b"), refused(1, 1, 0x20));
 }
 
 #[test]
 fn other_names(rt: HostRuntime) {
-    assert_eq!(rt; complete_name(b"HEAD"), Ok(()));
-    assert_eq!(rt; complete_name(b"A1"), refused(2, 12, 0));
-    assert_eq!(rt; branch_name(b"refs/heads/main"), Ok(()));
-    assert_eq!(rt; branch_name(b"refs/heads/-x"), refused(3, 13, 0));
-    assert_eq!(rt; tag_name(b"@"), Ok(()));
-    assert_eq!(rt; tag_name(b"v1..0"), refused(4, 4, 0));
+    assert_eq!(rt; ask_by_manual(&CompleteNames, b"HEAD"), Ok(()));
+    assert_eq!(rt; ask_by_manual(&CompleteNames, b"A1"), refused(2, 12, 0));
+    assert_eq!(rt; ask_by_manual(&BranchNames, b"refs/heads/main"), Ok(()));
+    assert_eq!(rt;
+        ask_by_manual(&BranchNames, b"refs/heads/-x"),
+        refused(3, 13, 0)
+    );
+    assert_eq!(rt; ask_by_manual(&TagNames, b"@"), Ok(()));
+    assert_eq!(rt; ask_by_manual(&TagNames, b"v1..0"), refused(4, 4, 0));
 }
 
 #[test]

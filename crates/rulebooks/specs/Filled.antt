@@ -1,5 +1,5 @@
--- Lemmas for a law that src/ proves: an allowed name has no empty component.
-use Rattle.std.specs.Prelude.{◌≡◌, ℕ, ◌+◌, List, [], ◌∷◌, ◌++◌, ◌≢◌, refl}
+-- Lemmas for the laws that src/ proves: a name is allowed where its rules are kept, and an allowed name has no empty component.
+use Rattle.std.specs.Prelude.{◌≡◌, ◌↔◌, ℕ, ◌+◌, List, [], ◌∷◌, ◌++◌, ◌≢◌, refl}
 use Rattle.std.proofs.Common.{⊎_elim, sym, ap, subst, arith}
 use Rattle.std.specs.List.{AllByRecursion}
 use Rattle.tag.specs.Answers.{Answer}
@@ -17,6 +17,10 @@ use Rattle.rulebooks.specs.Kinds.{component_ruling, leftmost}
 pub ruling_allows : (a : Answer) → ruling a ≡ allowed → a ≡ answer_allowed
 ruling_allows answer_allowed h = refl
 ruling_allows (answer_refused n v) h = let z : ◌≡◌ {A = ℕ} 0 1 = cc in absurd (omega arith)
+
+-- Where an answer allows exactly by the rules P, so does its ruling.
+pub rules_decided : {P : Type 0} (a : Answer) → (a ≡ answer_allowed → P) × (P → a ≡ answer_allowed) → (ruling a ≡ allowed) ↔ P
+rules_decided a decides = (λ e. decides.0 (ruling_allows a e), λ kept. ap ruling (decides.1 kept))
 
 -- c has a byte.
 abbrev Filled : List ℕ → Type 0

@@ -11,10 +11,14 @@ ghost use Rattle.rulebooks.specs.Refusals.{fault_ruling, ruling_in, ruling_of};
 ghost use Rattle.rulebooks.specs.Rulings.{Ruling, ruling};
 ghost use Rattle.rulebooks.specs.Rulings.Ruling.{allowed};
 
+mod manual;
 pub mod names;
 pub mod trees;
 
-/// A refusal by a rulebook.
+pub use manual::{ManualRulebook, ask_by_manual};
+
+/// A refusal by a rulebook. A rulebook of another crate gives numbers of its own, and the project's rules fix that a fault is a
+/// kind, a number and a value: so it is no enum.
 #[derive(Clone, Copy, Debug, PartialEq, Eq)]
 pub struct Refusal {
     pub number: u8,
@@ -24,15 +28,13 @@ pub struct Refusal {
 
 /// Which byte strings are names. All values of a type mean the same.
 pub trait Rulebook {
+    /// The number of the kind.
     const KIND: u8;
 
-    ghost kind: { ℕ };
+    // The same number in contracts; the check proves that the two are equal.
+    ghost KIND: { ℕ };
 
     ghost meaning: { List ℕ → Ruling };
-
-    /// The number of the kind, `Self::KIND`.
-    fn kind_number() -> u8
-        ensures { result ≡ kind };
 
     /// Whether `name` is allowed, and else the refusal.
     fn check(&self, name: &[u8]) -> Result<(), Refusal>
@@ -64,7 +66,7 @@ impl<'a> From<reference::Error<'a>> for Refusal {
         match error {
             reference::Error::InvalidByte(byte) => Refusal {
                 number: 1,
-                value: byte as usize,
+                value: usize::from(byte),
             },
             _ => Refusal {
                 number: error.number(),
@@ -92,16 +94,13 @@ pub struct RulebookFault {
 /// Asks a rulebook whether `name` is allowed; a refusal tells the rulebook's kind.
 pub fn ask<R: Rulebook>(rules: &R, name: &[u8]) -> Result<(), RulebookFault>
     ensures answer { fault_ruling result ≡ R.Rulebook.meaning name.now }
-    ensures kind { IfErr result (λ f. f.kind ≡ R.Rulebook.kind) }
+    ensures kind { IfErr result (λ f. f.kind ≡ R.Rulebook.KIND) }
     ensures filled { OnOk result ((c : List ℕ) → Among c (components name.now) → c ≢ []) }
 {
-    match rules.check(name) {
-        Ok(()) => Ok(()),
-        Err(refusal) => Err(RulebookFault {
-            kind: R::kind_number(),
-            refusal,
-        }),
-    }
+    rules.check(name).map_err(|refusal| RulebookFault {
+        kind: R::KIND,
+        refusal,
+    })
 }
 
 /// Mends `text` by a mending rulebook: an allowed name at the front of the buffer, whose length is the answer.

@@ -1,24 +1,21 @@
 //! The rulebook of tree paths, kind 5.
 ghost use Rattle.std.specs.Prelude.{◌≡◌, IfErr};
 ghost use Rattle.tag.specs.Components.{components};
-ghost use Rattle.mending.specs.Steps.{FirstEnds};
 ghost use Rattle.rulebooks.specs.Kinds.{component_ruling, tree_paths};
-ghost use Rattle.rulebooks.specs.Paths.{PathRuled};
+ghost use Rattle.rulebooks.specs.Paths.{FirstEnds, PathRuled};
 ghost use Rattle.rulebooks.specs.Refusals.{fault_ruling, ruling_of};
 ghost use Rattle.rulebooks.specs.Filled.{leftmost_filled};
 
 use super::{Refusal, Rulebook, RulebookFault, ask};
+use tag::components::Components;
 
 /// The length of the component that `path` begins with.
 pub fn component_end(path: &[u8]) -> usize
     ensures { FirstEnds path.now result }
 {
-    for (i, byte) in path.iter().enumerate() {
-        if *byte == b'/' {
-            return i;
-        }
-    }
-    path.len()
+    path.iter()
+        .position(|byte| *byte == b'/')
+        .unwrap_or(path.len())
 }
 
 /// Whether a tree path may have this component at this index: 21 for an empty one, 28 for a relative one.
@@ -42,17 +39,10 @@ fn check_component(index: usize, component: &[u8]) -> Result<(), Refusal>
 fn check_components(path: &[u8]) -> Result<(), Refusal>
     ensures { ruling_of result ≡ tree_paths path.now }
 {
-    let mut rest = path;
-    let mut index = 0;
-    loop {
-        let end = component_end(rest);
-        check_component(index, &rest[0..end])?;
-        if end == rest.len() {
-            return Ok(());
-        }
-        rest = &rest[end + 1..];
-        index += 1;
+    for (index, component) in Components::of(path).enumerate() {
+        check_component(index, component)?;
     }
+    Ok(())
 }
 
 /// Kind 5: tree paths.
@@ -62,22 +52,20 @@ pub struct TreePaths;
 impl Rulebook for TreePaths {
     const KIND: u8 = 5;
 
-    ghost kind = { 5 };
+    ghost KIND = { 5 };
 
     ghost meaning = { tree_paths };
 
     ghost filled = { λ s c h. leftmost_filled 0 (components s) h c };
-
-    fn kind_number() -> u8 {
-        Self::KIND
-    }
 
     fn check(&self, name: &[u8]) -> Result<(), Refusal> {
         check_components(name)
     }
 }
 
-/// Asks the rulebook of tree paths.
+// It stays beside `ask`, since the clause `leftmost` is of tree paths alone.
+/// Asks the rulebook of tree paths; a refusal tells the leftmost component that is not proper.
+#[tactic(auto, using(crate::proofs::Leftmost::path_ruled))]
 pub fn tree_path(path: &[u8]) -> Result<(), RulebookFault>
     ensures answer { fault_ruling result ≡ tree_paths path.now }
     ensures kind { IfErr result (λ f. f.kind ≡ 5) }

@@ -1,6 +1,6 @@
 -- A list of calls made so far and their answers, one more at a time.
-use Rattle.std.proofs.Common.{◌≡◌, ℕ, ◌+◌, ◌<◌, List, [], ◌∷◌, ◌++◌, map, length, get_or, take, drop, set, sym, refl, ap, ◌∙◌, arith}
-use Rattle.std.proofs.lemmas.List.{drop-drop, drop-set-lt, map-append, take_more, take_more_set}
+use Rattle.std.proofs.Common.{◌≡◌, ℕ, ◌+◌, ◌<◌, ◌≤◌, List, [], ◌∷◌, ◌++◌, map, length, get_or, take, drop, set, sym, refl, ap, ◌∙◌, arith}
+use Rattle.std.proofs.lemmas.List.{drop-drop, drop-set-lt, map-append, length-take-le, take_more, take_more_set, take_all}
 use Rattle.claims.specs.Calls.{Call, Kept, Meaning, Outcome, answer, entries_after}
 use Rattle.claims.specs.Claim.{Ran}
 use Rattle.claims.specs.Histories.{answers, entries_left, history}
@@ -18,13 +18,14 @@ module _ {C A : Type 0} (call : C → Call) (outcome : A → Outcome) (m : Meani
   none_yet cs os = record { answered = refl; left = refl }
 
   -- The call at i was made next.
-  pub one_more : (cs : List C) (os : List A) (i : ℕ) (d : C) (es : Kept) → i < length cs → i < length os → Made cs os i es
-      → (n : Meaning) → n ≡ m → (a : A) (fs : Kept) → outcome a ≡ answer n es (call (get_or cs i d))
-      → fs ≡ entries_after n es (call (get_or cs i d)) → Made cs (set os i a) (i + 1) fs
-  one_more cs os i d es h k made n same a fs e l =
-      let c = call (get_or cs i d) in
+  pub one_more : (cs : List C) (os : List A) (i : ℕ) (x : C) (es : Kept) → i < length cs → i < length os → x ≡ get_or cs i x → Made cs os i es
+      → (n : Meaning) → n ≡ m → (a : A) (fs : Kept) → outcome a ≡ answer n es (call x)
+      → fs ≡ entries_after n es (call x) → Made cs (set os i a) (i + 1) fs
+  one_more cs os i x es h k is made n same a fs e l =
+      let c = call x in
       let before = map call (take i cs) in
-      let calls : map call (take (i + 1) cs) ≡ before ++ c ∷ [] = ap (map call) (take_more cs i d h) ∙ map-append call (take i cs) (get_or cs i d ∷ []) in
+      let taken : take (i + 1) cs ≡ take i cs ++ x ∷ [] = rw (← is) at (take_more cs i x h) in
+      let calls : map call (take (i + 1) cs) ≡ before ++ c ∷ [] = ap (map call) taken ∙ map-append call (take i cs) (x ∷ []) in
       let given : outcome a ≡ answer m (entries_left m first before) c = (rw same at e) ∙ ap (λ z. answer m z c) made.left in
       record {
         answered =
@@ -36,6 +37,14 @@ module _ {C A : Type 0} (call : C → Call) (outcome : A → Outcome) (m : Meani
             (rw same at l)
             ∙ (ap (λ z. entries_after m z c) made.left ∙ (sym (left_push m first before c) ∙ ap (entries_left m first) (sym calls)));
       }
+
+  -- All of the first n calls were made.
+  pub all_made : (cs : List C) (os : List A) (n i : ℕ) (es : Kept) → n ≤ length cs → i ≡ length (take n cs) → Made (take n cs) os i es → Made cs os n es
+  all_made cs os n i es h end made =
+      let same : i ≡ n = end ∙ length-take-le n cs h in
+      let whole : take n (take n cs) ≡ take n cs = take_all n (take n cs) (omega (arith, length-take-le n cs h)) in
+      let at_n = rw same at made in
+      record { answered = rw whole at at_n.answered; left = rw whole at at_n.left }
 
   -- The calls so far are a run.
   pub made_ran : (cs : List C) (os : List A) (i : ℕ) (es : Kept) → Made cs os i es

@@ -1,14 +1,16 @@
 //! Lists of calls on a register, and what holds after any of them.
 #![tactic(auto)]
 
-ghost use Rattle.std.specs.Prelude.{◌≡◌, min, List, [], map, length, take, drop};
-ghost use Rattle.claims.specs.Calls.{answer as answer_laid_down, entries_after};
-ghost use Rattle.claims.specs.Claim.{Claim, Done, OffersClaim, Ran};
-ghost use Rattle.claims.specs.Histories.{answers as answers_laid_down, entries_left, history};
+ghost use Rattle.std.specs.Prelude.{◌≡◌, min, Bool, true, false, IsTrue, List, [], map, length, take, drop};
+ghost use Rattle.std.proofs.lemmas.Bool.{false≢true};
+ghost use Rattle.claims.specs.Calls.{Call as LaidDown, Meaning, answer as answer_laid_down, entries_after};
+ghost use Rattle.claims.specs.Claim.{Claim, Done, Lawful, Mending, OffersClaim, Ran};
+ghost use Rattle.claims.specs.Histories.{answers as answers_laid_down, entries_left};
 ghost use Rattle.register.specs.Faults.{outcome_of};
 ghost use Rattle.register.specs.Meanings.{meaning_in, mending_meaning_in};
 ghost use Rattle.register.specs.Registers.{SameRules, entries_in};
-ghost use Rattle.runs.specs.Listed.{call_of, change_of};
+ghost use Rattle.register.specs.declared.Register.{Register};
+ghost use Rattle.runs.specs.Listed.{call_of, change_of, first_done};
 
 use filesystems::FileSystem;
 use protections::Mode;
@@ -44,97 +46,120 @@ pub enum Call<'a> {
 /// What a call answers: the place of the name, or why it is refused.
 pub type Answer = Result<usize, Fault>;
 
-/// Makes one call.
-fn make_change<R: Rulebook, F: FileSystem>(
-    register: &mut Register<R, F>,
-    change: Change<'_>,
-) -> Answer
-    ensures answer { outcome_of result ≡ answer_laid_down (meaning_in R.Rulebook F.FileSystem register.old) (entries_in register.old) (change_of change.entry) }
-    ensures entries { entries_in register.new ≡ entries_after (meaning_in R.Rulebook F.FileSystem register.old) (entries_in register.old) (change_of change.entry) }
-    ensures same_rules { SameRules register.old register.new }
-{
-    match change {
-        Change::Enter { name, number, mode } => register.enter(name, number, mode),
-        Change::Rename { old, new, mode } => register.rename(old, new, mode),
-        Change::Remove { name } => register.remove(name),
-    }
+/// A call on a register with rules `R` and files `F`, with its arguments, which can be made.
+pub trait Request<R, F>: Copy {
+    // Which call it is.
+    ghost laid_down: { Self → LaidDown };
+
+    // What the rulebook and the file system of a register mean to it.
+    ghost meaning: { Register R F → Meaning };
+
+    // Whether such a call may be an offer.
+    ghost may_offer: { Bool };
+
+    /// Makes the call.
+    fn make(self, register: &mut Register<R, F>) -> Answer
+        ensures answer { outcome_of result ≡ answer_laid_down (meaning register.old) (entries_in register.old) (laid_down self) }
+        ensures entries { entries_in register.new ≡ entries_after (meaning register.old) (entries_in register.old) (laid_down self) }
+        ensures same_rules { SameRules register.old register.new };
+
+    // First law: registers with the same rulebook and file system mean the same.
+    ghost same_meaning: { (r s : Register R F) → SameRules r s → meaning s ≡ meaning r };
+
+    // Second law: the rulebook and the file system keep their laws.
+    ghost lawful: { (r : Register R F) → Lawful (meaning r) };
+
+    // Third law: where such a call may be an offer, the rulebook keeps the laws of one that mends.
+    ghost mending: { (r : Register R F) → IsTrue may_offer → Mending (meaning r) };
 }
 
-/// Makes one call, which may be an offer.
-fn make_call<R: MendingRulebook, F: FileSystem>(
-    register: &mut Register<R, F>,
-    call: Call<'_>,
-) -> Answer
-    ensures answer { outcome_of result ≡ answer_laid_down (mending_meaning_in R.Rulebook R.MendingRulebook.mended F.FileSystem register.old) (entries_in register.old) (call_of call.entry) }
-    ensures entries { entries_in register.new ≡ entries_after (mending_meaning_in R.Rulebook R.MendingRulebook.mended F.FileSystem register.old) (entries_in register.old) (call_of call.entry) }
-    ensures same_rules { SameRules register.old register.new }
-{
-    match call {
-        Call::Change(change) => make_change(register, change),
-        Call::Offer { text, number } => register.offer(text, number),
-    }
-}
+impl<'a, R: Rulebook, F: FileSystem> Request<R, F> for Change<'a> {
+    ghost laid_down = { change_of };
 
-/// Makes the calls of a list one by one, as many as there is room for answers, and answers how many these are.
-pub fn perform_changes<R: Rulebook, F: FileSystem>(
-    register: &mut Register<R, F>,
-    changes: &[Change<'_>],
-    answers: &mut [Answer],
-) -> usize
-    ensures count { result ≡ min (length changes.now) (length answers.old) }
-    ensures answered { map outcome_of (take result answers.new) ≡ answers_laid_down (meaning_in R.Rulebook F.FileSystem register.old) (entries_in register.old) (map change_of (take result changes.now)) }
-    ensures entries { entries_in register.new ≡ entries_left (meaning_in R.Rulebook F.FileSystem register.old) (entries_in register.old) (map change_of (take result changes.now)) }
-    ensures ran { Ran (meaning_in R.Rulebook F.FileSystem register.old) (entries_in register.old) (history (map change_of (take result changes.now)) (map outcome_of (take result answers.new))) (entries_in register.new) }
-    ensures claim { entries_in register.old ≡ [] → Claim (meaning_in R.Rulebook F.FileSystem register.old) (history (map change_of (take result changes.now)) (map outcome_of (take result answers.new))) (entries_in register.new) }
-    ensures rest { drop result answers.new ≡ drop result answers.old }
-    ensures same_rules { SameRules register.old register.new }
-{
-    for (i, change) in changes.iter().enumerate() {
-        if i == answers.len() {
-            return i;
+    ghost meaning = { λ r. meaning_in R.Rulebook F.FileSystem r };
+
+    ghost may_offer = { false };
+
+    fn make(self, register: &mut Register<R, F>) -> Answer {
+        match self {
+            Change::Enter { name, number, mode } => register.enter(name, number, mode),
+            Change::Rename { old, new, mode } => register.rename(old, new, mode),
+            Change::Remove { name } => register.remove(name),
         }
-        answers[i] = make_change(register, *change);
     }
-    changes.len()
+
+    ghost same_meaning = { λ r s same. Prim.cc };
+
+    ghost lawful = { λ r. record {
+      filled = R.filled;
+      symmetric = F.symmetric r.files;
+      some_key = (F.keyed r.files).0;
+      keyed = (F.keyed r.files).1;
+    } };
+
+    ghost mending = { λ r offers. absurd (false≢true offers) };
 }
 
-/// The same where the rulebook mends, so that a call may be an offer.
-pub fn perform<R: MendingRulebook, F: FileSystem>(
+impl<'a, R: MendingRulebook, F: FileSystem> Request<R, F> for Call<'a> {
+    ghost laid_down = { call_of };
+
+    ghost meaning = { λ r. mending_meaning_in R.Rulebook R.MendingRulebook.mended F.FileSystem r };
+
+    ghost may_offer = { true };
+
+    fn make(self, register: &mut Register<R, F>) -> Answer {
+        match self {
+            Call::Change(change) => change.make(register),
+            Call::Offer { text, number } => register.offer(text, number),
+        }
+    }
+
+    ghost same_meaning = { λ r s same. Prim.cc };
+
+    ghost lawful = { λ r. record {
+      filled = R.filled;
+      symmetric = F.symmetric r.files;
+      some_key = (F.keyed r.files).0;
+      keyed = (F.keyed r.files).1;
+    } };
+
+    ghost mending = { λ r offers. record {
+      mended_allowed = R.always_allowed;
+      mended_short = R.no_longer;
+      allowed_stays = R.allowed_stays;
+    } };
+}
+
+/// Makes the calls of a list one by one, as many as there is room for answers, and answers how many these are. A list of
+/// `Change` is for every register, and one of `Call`, which may hold offers, for a register whose rulebook mends.
+pub fn perform<R, F, Q: Request<R, F>>(
     register: &mut Register<R, F>,
-    calls: &[Call<'_>],
+    calls: &[Q],
     answers: &mut [Answer],
 ) -> usize
     ensures count { result ≡ min (length calls.now) (length answers.old) }
-    ensures answered { map outcome_of (take result answers.new) ≡ answers_laid_down (mending_meaning_in R.Rulebook R.MendingRulebook.mended F.FileSystem register.old) (entries_in register.old) (map call_of (take result calls.now)) }
-    ensures entries { entries_in register.new ≡ entries_left (mending_meaning_in R.Rulebook R.MendingRulebook.mended F.FileSystem register.old) (entries_in register.old) (map call_of (take result calls.now)) }
-    ensures ran { Ran (mending_meaning_in R.Rulebook R.MendingRulebook.mended F.FileSystem register.old) (entries_in register.old) (history (map call_of (take result calls.now)) (map outcome_of (take result answers.new))) (entries_in register.new) }
-    ensures claim { entries_in register.old ≡ [] → Claim (mending_meaning_in R.Rulebook R.MendingRulebook.mended F.FileSystem register.old) (history (map call_of (take result calls.now)) (map outcome_of (take result answers.new))) (entries_in register.new) }
-    ensures offers { OffersClaim (mending_meaning_in R.Rulebook R.MendingRulebook.mended F.FileSystem register.old) (history (map call_of (take result calls.now)) (map outcome_of (take result answers.new))) }
+    ensures answered { map outcome_of (take result answers.new) ≡ answers_laid_down (Q.meaning register.old) (entries_in register.old) (map Q.laid_down (take result calls.now)) }
+    ensures entries { entries_in register.new ≡ entries_left (Q.meaning register.old) (entries_in register.old) (map Q.laid_down (take result calls.now)) }
+    ensures ran { Ran (Q.meaning register.old) (entries_in register.old) (first_done Q.laid_down calls.now answers.new result) (entries_in register.new) }
+    ensures claim { entries_in register.old ≡ [] → Claim (Q.meaning register.old) (first_done Q.laid_down calls.now answers.new result) (entries_in register.new) }
+    ensures offers { IsTrue Q.may_offer → OffersClaim (Q.meaning register.old) (first_done Q.laid_down calls.now answers.new result) }
     ensures rest { drop result answers.new ≡ drop result answers.old }
     ensures same_rules { SameRules register.old register.new }
 {
-    for (i, call) in calls.iter().enumerate() {
-        if i == answers.len() {
-            return i;
-        }
-        answers[i] = make_call(register, *call);
+    let count = calls.len().min(answers.len());
+    // No zip with `answers.iter_mut()`: after it nothing is known of what it wrote.
+    for (i, call) in calls[..count].iter().enumerate() {
+        answers[i] = call.make(register);
     }
-    calls.len()
+    count
 }
 
-/// How many entries a register keeps. Whatever calls took it here from no entry, made one by one, the claim holds of them.
-pub fn audit_changes<R: Rulebook, F: FileSystem>(register: &Register<R, F>) -> usize
+/// How many entries a register keeps. Whatever calls took it here from no entry, made one by one, the claim holds of them. The
+/// type `Q` says which calls these are: `Change` for those that every register takes, and `Call` where the rulebook mends.
+pub fn audit<R: Rulebook, F: FileSystem, Q: Request<R, F>>(register: &Register<R, F>) -> usize
     ensures count { result ≡ length (entries_in register.now) }
-    ensures claim { (ds : List Done) → Ran (meaning_in R.Rulebook F.FileSystem register.now) [] ds (entries_in register.now) → Claim (meaning_in R.Rulebook F.FileSystem register.now) ds (entries_in register.now) }
+    ensures claim { (ds : List Done) → Ran (Q.meaning register.now) [] ds (entries_in register.now) → Claim (Q.meaning register.now) ds (entries_in register.now) }
+    ensures offers { IsTrue Q.may_offer → (ds : List Done) → Ran (Q.meaning register.now) [] ds (entries_in register.now) → OffersClaim (Q.meaning register.now) ds }
 {
     register.count()
-}
-
-/// The same where the rulebook mends, so that calls may be offers.
-pub fn audit<R: MendingRulebook, F: FileSystem>(register: &Register<R, F>) -> usize
-    ensures count { result ≡ length (entries_in register.now) }
-    ensures claim { (ds : List Done) → Ran (mending_meaning_in R.Rulebook R.MendingRulebook.mended F.FileSystem register.now) [] ds (entries_in register.now) → Claim (mending_meaning_in R.Rulebook R.MendingRulebook.mended F.FileSystem register.now) ds (entries_in register.now) }
-    ensures offers { (ds : List Done) → Ran (mending_meaning_in R.Rulebook R.MendingRulebook.mended F.FileSystem register.now) [] ds (entries_in register.now) → OffersClaim (mending_meaning_in R.Rulebook R.MendingRulebook.mended F.FileSystem register.now) ds }
-{
-    audit_changes(register)
 }

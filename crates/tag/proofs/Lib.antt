@@ -7,4 +7,5 @@ pub mod Soundness
 pub mod Members
 pub mod Parts
 pub mod Locks
+pub mod Splitting
 pub mod Rules

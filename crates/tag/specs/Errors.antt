@@ -1,5 +1,5 @@
 -- The number and the value of each error, and the answer that a result stands for.
-use Rattle.std.specs.Prelude.{ℕ, Some, None, Ok, Err, Option, Result}
+use Rattle.std.specs.Prelude.{ℕ, Ok, Err, Result}
 use Rattle.tag.specs.Answers.{Answer}
 use Rattle.tag.specs.Answers.Answer.{allowed, refused}
 use Rattle.tag.specs.Answers.Value.{nothing, byte}
@@ -24,11 +24,6 @@ refusal Empty = refused 11 nothing
 abbrev pub answer_of : {T : Type 0} → Result T Error → Answer
 answer_of (Ok v) = allowed
 answer_of (Err e) = refusal e
-
--- The answer of a step that found a fault or none.
-abbrev pub fault_of : Option Error → Answer
-fault_of None = allowed
-fault_of (Some e) = refusal e
 
 -- The number of an answer, 0 for an allowed name.
 abbrev pub number_of : Answer → ℕ

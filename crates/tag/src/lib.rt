@@ -10,8 +10,10 @@ ghost use Rattle.tag.specs.Names.{closing, opening, reads, tag_name};
 
 use scanner::{Scanner, ordinary};
 
+pub mod components;
 pub mod display;
 pub mod scanner;
+pub mod splits;
 
 /// Why a tag name is refused. The cases keep the numbers 1 to 11, in this order.
 #[derive(Clone, Copy, Debug, PartialEq, Eq)]
@@ -31,6 +33,7 @@ pub enum Error {
 
 impl Error {
     /// The number of the refusal.
+    // A table, since the cases of an enum of which one carries a byte have no numbers of their own.
     pub fn number(&self) -> u8
         ensures { result ≡ number_of (refusal self.now) }
     {
@@ -54,10 +57,7 @@ impl Error {
 pub fn ends_in_lock(bytes: &[u8]) -> bool
     ensures { result ≡ ends_in_lock bytes.now }
 {
-    match bytes {
-        [.., b'.', b'l', b'o', b'c', b'k'] => true,
-        _ => false,
-    }
+    bytes.ends_with(b".lock")
 }
 
 /// The lines before any byte is read: no byte, a last slash, a first slash.
@@ -82,10 +82,8 @@ fn read(input: &[u8]) -> Result<(), Error>
             scanner = Scanner::AfterOther;
             continue;
         }
-        if let Some(fault) = scanner.step(*byte) {
-            return Err(fault);
-        }
-        if *byte == b'/' && ends_in_lock(&input[0..i]) {
+        scanner.step(*byte)?;
+        if *byte == b'/' && ends_in_lock(&input[..i]) {
             return Err(Error::LockFileSuffix);
         }
     }

@@ -1,6 +1,6 @@
 //! The scanner of names: its state is what the byte before was.
 ghost use Rattle.std.specs.Prelude.{◌≡◌, ℕ};
-ghost use Rattle.tag.specs.Errors.{fault_of};
+ghost use Rattle.tag.specs.Errors.{answer_of};
 ghost use Rattle.tag.specs.Names.{pair};
 ghost use Rattle.tag.specs.Ordinary.{ordinary};
 ghost use Rattle.tag.specs.Scanning.{after};
@@ -17,28 +17,36 @@ pub enum Scanner {
 }
 
 impl Scanner {
-    /// Reads the next byte: the fault that it has after the byte before it, if any. The state moves on either way.
-    pub fn step(&mut self, byte: u8) -> Option<Error>
-        ensures moves { self.new ≡ after byte }
-        ensures finds { (a : ℕ) → self.old ≡ after a → fault_of result ≡ pair a byte }
+    /// The state that `byte` leaves.
+    fn after(byte: u8) -> Scanner
+        ensures { result ≡ after byte }
     {
-        let (next, fault) = match (*self, byte) {
-            (_, 0..=0x1f | 0x7f | b' ' | b'\\' | b'^' | b':' | b'[' | b'?' | b'~') => (
-                Scanner::AfterOther,
-                Some(Error::InvalidByte(byte)),
-            ),
-            (_, b'*') => (Scanner::AfterOther, Some(Error::Asterisk)),
-            (Scanner::AfterDot, b'.') => (Scanner::AfterDot, Some(Error::RepeatedDot)),
-            (Scanner::AfterSlash, b'.') => (Scanner::AfterDot, Some(Error::StartsWithDot)),
-            (_, b'.') => (Scanner::AfterDot, None),
-            (Scanner::AfterSlash, b'/') => (Scanner::AfterSlash, Some(Error::RepeatedSlash)),
-            (_, b'/') => (Scanner::AfterSlash, None),
-            (Scanner::AfterAt, b'{') => (Scanner::AfterOther, Some(Error::ReflogPortion)),
-            (_, b'@') => (Scanner::AfterAt, None),
-            _ => (Scanner::AfterOther, None),
-        };
-        *self = next;
-        fault
+        match byte {
+            b'.' => Scanner::AfterDot,
+            b'/' => Scanner::AfterSlash,
+            b'@' => Scanner::AfterAt,
+            _ => Scanner::AfterOther,
+        }
+    }
+
+    /// Reads the next byte, and answers the fault that it has after the byte before it. The state moves on either way.
+    pub fn step(&mut self, byte: u8) -> Result<(), Error>
+        ensures moves { self.new ≡ after byte }
+        ensures finds { (a : ℕ) → self.old ≡ after a → answer_of result ≡ pair a byte }
+    {
+        let before = *self;
+        *self = Scanner::after(byte);
+        match (before, byte) {
+            (_, 0..=0x1f | 0x7f | b' ' | b'\\' | b'^' | b':' | b'[' | b'?' | b'~') => {
+                Err(Error::InvalidByte(byte))
+            }
+            (_, b'*') => Err(Error::Asterisk),
+            (Scanner::AfterDot, b'.') => Err(Error::RepeatedDot),
+            (Scanner::AfterSlash, b'.') => Err(Error::StartsWithDot),
+            (Scanner::AfterSlash, b'/') => Err(Error::RepeatedSlash),
+            (Scanner::AfterAt, b'{') => Err(Error::ReflogPortion),
+            _ => Ok(()),
+        }
     }
 }
 

@@ -1,35 +1,19 @@
--- The loop of `matching` counts a byte that lies in its range, and stops at the first that does not.
-use Rattle.std.proofs.Common.{drop, sym, arith, length-drop}
-use Rattle.std.proofs.lemmas.List.Sums.{common_prefix_len-drop_yes, common_prefix_len-drop_no, common_prefix_len-le}
-use Rattle.characters.specs.Table.{within}
+-- The count of the pairs from the front on of which the byte lies in its range.
+use Rattle.std.proofs.Common.{◌≡◌, ◌∙◌, rules, tests}
+use Rattle.std.specs.List.{zip}
+use Rattle.std.proofs.lemmas.Iterator.{YieldsList-from_slice, YieldsList-from_zip}
+use Rattle.std.proofs.lemmas.Iterator.Consumers.{YieldsList-at, count_from_yields_List}
+use Rattle.std.proofs.lemmas.Iterator.Search.{YieldsList-from_take_while}
+use Rattle.std.proofs.lemmas.List.Folds.{length-prefix_len}
+use Rattle.characters.proofs.Rows.{meets, common_prefix_zip}
 use Rattle.characters.proofs.matching.Goals as goal
 
-pub loop-count-preserved : goal.loop-count-preserved
-loop-count-preserved c =
-    let more =
-    common_prefix_len-drop_yes within c.args.bytes.now c.args.ranges.now c.loop-count.count 0 _ c.loop-count-test.true
-    c.if-count-ranges.true
-    (sym c.if-contains.ensures)
-    in
-    (omega arith, omega arith, omega arith)
-
-pub returns-else-contains : goal.returns-else-contains
-returns-else-contains c =
-    let stop =
-    common_prefix_len-drop_no within c.args.bytes.now c.args.ranges.now c.loop-count.count 0 _ c.loop-count-test.true
-    c.if-count-ranges.true
-    (sym c.if-contains.ensures)
-    in
-    record { value = omega arith; bytes_bound = omega arith; ranges_bound = omega arith }
-
-pub returns-else-count-ranges : goal.returns-else-count-ranges
-returns-else-count-ranges c =
-    let most = common_prefix_len-le within (drop c.loop-count.count c.args.bytes.now) (drop c.loop-count.count c.args.ranges.now) in
-    let left = length-drop c.loop-count.count c.args.ranges.now in
-    record { value = omega arith; bytes_bound = omega arith; ranges_bound = omega arith }
-
-pub returns-after-loop-count : goal.returns-after-loop-count
-returns-after-loop-count c =
-    let most = common_prefix_len-le within (drop c.loop-count.count c.args.bytes.now) (drop c.loop-count.count c.args.ranges.now) in
-    let left = length-drop c.loop-count.count c.args.bytes.now in
-    record { value = omega arith; bytes_bound = omega arith; ranges_bound = omega arith }
+pub returns-clause-value : goal.returns-clause-value
+returns-clause-value c =
+    let second : c.zip.result.b.rest.now ≡ c.args.ranges.now = c.zip.ensures.second.0 in
+    count_from_yields_List c.take_while.result _ c.count.ensures.ran
+    (YieldsList-from_take_while _ meets
+    (YieldsList-at c.take_while.ensures.source (YieldsList-from_zip (YieldsList-at c.zip.ensures.first (YieldsList-from_slice c.args.bytes.now cc)) (YieldsList-from_slice c.args.ranges.now second)))
+    c.take_while.ensures.closure c.take_while.ensures.done (λ x b q k. search (rules, tests)))
+    ∙ length-prefix_len meets (zip c.args.bytes.now c.args.ranges.now)
+    ∙ common_prefix_zip c.args.bytes.now c.args.ranges.now

@@ -2,53 +2,37 @@
 ghost use Rattle.std.specs.Prelude.{◌≡◌, [], OnErr};
 ghost use Rattle.filesystems.specs.Pairs.{in_order, Within};
 ghost use Rattle.filesystems.specs.Refusal.{answer_of, declare_rule, pairs_after};
-ghost use Rattle.filesystems.specs.Kept.{declared_pairs};
 
-use super::{DeclaredBottom, LONGEST, MOST, Pair, Word};
+use super::{DeclaredBottom, Pair};
 use crate::refusal::DeclareError;
+use arrayvec::ArrayVec;
 
 impl DeclaredBottom {
     /// No pair is declared.
     pub fn new() -> DeclaredBottom
-        ensures { declared_pairs result ≡ [] }
+        ensures { result ≡ [] }
     {
-        let none = Pair {
-            left: Word::EMPTY,
-            right: Word::EMPTY,
-        };
         DeclaredBottom {
-            pairs: [none; 16],
-            count: 0,
+            pairs: ArrayVec::new(),
         }
     }
 
     /// Declares that the two components are confused.
     pub fn declare(&mut self, left: &[u8], right: &[u8]) -> Result<(), DeclareError>
-        ensures answer { answer_of result ≡ declare_rule (declared_pairs self.old) left.now right.now }
-        ensures after { declared_pairs self.new ≡ pairs_after (answer_of result) (declared_pairs self.old) left.now right.now }
+        ensures answer { answer_of result ≡ declare_rule self.old left.now right.now }
+        ensures after { self.new ≡ pairs_after (answer_of result) self.old left.now right.now }
         ensures unaltered { OnErr result (self.new ≡ self.old) }
-        ensures within { Within (declared_pairs self.new) }
+        ensures within { Within self.new }
     {
-        if left.len() > LONGEST || right.len() > LONGEST {
-            return Err(DeclareError::ComponentTooLong);
-        }
-        if self.count == MOST {
-            return Err(DeclareError::TooManyPairs);
-        }
-        self.pairs[self.count] = Pair::new(left, right);
-        self.count += 1;
-        Ok(())
+        let pairs = &mut self.pairs;
+        let pair = Pair::new(left, right)?;
+        pairs.try_push(pair).map_err(|_| DeclareError::TooManyPairs)
     }
 
     // Whether the two components are a pair, in this order.
     pub(super) fn pairs_up(&self, left: &[u8], right: &[u8]) -> bool
-        ensures { result ≡ in_order (declared_pairs self.now) left.now right.now }
+        ensures { result ≡ in_order self.now left.now right.now }
     {
-        for pair in &self.pairs[0..self.count] {
-            if pair.names(left, right) {
-                return true;
-            }
-        }
-        false
+        self.pairs.iter().any(|pair| pair.names(left, right))
     }
 }

@@ -1,5 +1,5 @@
 -- Each call of the lines is made, and the report is that of their answers.
-use Rattle.std.proofs.Common.{◌≡◌, map, length, vec_len, ap, ◌∙◌, arith}
+use Rattle.std.proofs.Common.{◌≡◌, map, length, vec_len, ap, ◌∙◌, refl, arith}
 use Rattle.std.proofs.lemmas.List.{take_at}
 use Rattle.std.proofs.lemmas.Result.{IfOk-weaker}
 use Rattle.lines.specs.Lines.{lines}
@@ -33,6 +33,6 @@ returns g c =
           (λ v e h. all_claimed call_of outcome_of m es cs A _ _ _ _ p.count room c.perform.auto.answers p.answered p.entries read (p.claim h))
           c.write_report.ensures;
       offers = IfOk-weaker c.write_report.result _ _
-          (λ v e. all_offered call_of outcome_of m es cs A _ _ _ _ p.count room c.perform.auto.answers p.answered p.entries read p.offers)
+          (λ v e. all_offered call_of outcome_of m es cs A _ _ _ _ p.count room c.perform.auto.answers p.answered p.entries read (p.offers refl))
           c.write_report.ensures;
     }

@@ -1,5 +1,5 @@
 -- The first check that refuses decides, and the answer decides the manual's rules.
-use Rattle.std.proofs.Common.{◌≡◌, sym, refl, ◌∙◌}
+use Rattle.std.proofs.Common.{◌≡◌, codes, sym, refl, ◌∙◌}
 use Rattle.std.proofs.lemmas.Result.{err_from_is_err_and}
 use Rattle.std.proofs.lemmas.Bool.{cond-true, cond-false}
 use Rattle.tag.specs.Names.{tag_name}
@@ -8,7 +8,7 @@ use Rattle.tag.proofs.Firsts.{first_passes}
 use Rattle.reference.specs.Errors.{from_tag, refusal}
 use Rattle.reference.specs.Names.{partial_name}
 use Rattle.reference.specs.declared.Error.TheVariants.{Reserved}
-use Rattle.reference.proofs.Deciding.{first_refuses, from_tag_refuses, from_tag_lends}
+use Rattle.reference.proofs.Deciding.{equals, first_refuses, from_tag_refuses, from_tag_lends}
 use Rattle.reference.proofs.Manual.{decides_err, decides_ok, partial_allows}
 use Rattle.reference.proofs.name_partial.Goals as goal
 
@@ -21,18 +21,20 @@ returns-in_err-name c =
     rw (p.1, p.2)
     (record { answer = a; view = from_tag_lends c.args.input _; manual = decides_err (from_tag c.in_err-name.field-0.0) _ a (partial_allows c.args.input.now) })
 
-pub returns-then-is_word : goal.returns-then-is_word
+pub returns-then-eq : goal.returns-then-eq
 unfolding partial_name
-returns-then-is_word c =
+returns-then-eq c =
+    let at = equals c.args.input.now c.as_slice.result.now (codes "@") c.eq.result c.eq.ensures c.as_slice.ensures in
     let a : refusal (Reserved c.args.input) ≡ partial_name c.args.input.now =
     first_passes (tag_name c.args.input.now) _ _ c.in_ok-name.ensures.answer
-    (sym (cond-true _ _ _ (sym c.if-is_word.ensures))) in
+    (sym (cond-true _ _ _ (sym at ∙ c.if-eq.true))) in
     record { answer = a; view = refl; manual = decides_err (Reserved c.args.input) _ a (partial_allows c.args.input.now) }
 
 pub returns : goal.returns
 unfolding partial_name
 returns c =
+    let at = equals c.args.input.now c.as_slice.result.now (codes "@") c.eq.result c.eq.ensures c.as_slice.ensures in
     let a : allowed ≡ partial_name c.args.input.now =
     first_passes (tag_name c.args.input.now) _ _ c.in_ok-name.ensures.answer
-    (sym (cond-false _ _ _ (sym c.if-is_word.ensures))) in
+    (sym (cond-false _ _ _ (sym at ∙ c.if-eq.false))) in
     record { answer = a; view = refl; manual = decides_ok _ a (partial_allows c.args.input.now) }

@@ -1,29 +1,11 @@
 //! The search for a kept name that meets a new one.
-ghost use Rattle.std.specs.Prelude.{◌≡◌, None};
+ghost use Rattle.std.specs.Prelude.{◌≡◌};
 ghost use Rattle.std.specs.Option.{option_map};
-ghost use Rattle.claims.specs.Calls.{first_meeting, left_out};
-ghost use Rattle.register.specs.Rows.{entries_of};
+ghost use Rattle.claims.specs.Calls.{first_meeting};
 
 use super::Table;
 use filesystems::FileSystem;
-use meetings::{Compared, walk};
-
-/// No name is left out.
-pub(crate) fn no_name<'a>() -> Option<&'a [u8]>
-    ensures { option_map (λ x. x.now) result ≡ None }
-{
-    None
-}
-
-/// Whether this is the name that is left out, if any is.
-fn is_left_out(name: &[u8], except: Option<&[u8]>) -> bool
-    ensures { result ≡ left_out (option_map (λ x. x.now) except.entry) name.now }
-{
-    match except {
-        Some(old) => name == old,
-        None => false,
-    }
-}
+use tag::components::Components;
 
 impl Table {
     /// The place of the first kept name that meets the new one; the name `except` is left out.
@@ -33,22 +15,24 @@ impl Table {
         name: &[u8],
         except: Option<&[u8]>,
     ) -> Option<usize>
-        ensures { result ≡ first_meeting (F.FileSystem.together files.now) (option_map (λ x. x.now) except.entry) name.now (entries_of self.now) }
+        ensures { result ≡ first_meeting (F.FileSystem.together files.now) (option_map (λ x. x.now) except.entry) name.now self.now }
     {
+        // The project's rules fix this form: a search in nested loops that are left by label.
         'search: {
-            'rows: for (place, row) in self.rows[0..self.count].iter().enumerate() {
-                let mut old = row.name.as_bytes();
-                if is_left_out(old, except) {
+            'rows: for (place, row) in self.rows.iter().enumerate() {
+                let old = row.name.as_slice();
+                if except == Some(old) {
                     continue 'rows;
                 }
-                let mut new = name;
-                'components: loop {
-                    match walk(files, &mut old, &mut new) {
-                        Compared::Met => break 'search Some(place),
-                        Compared::Apart => continue 'rows,
-                        Compared::Further => continue 'components,
+                for (x, y) in Components::of(old).zip(Components::of(name)) {
+                    if x != y {
+                        if files.lie_together(x, y) {
+                            break 'search Some(place);
+                        }
+                        continue 'rows;
                     }
                 }
+                break 'search Some(place);
             }
             None
         }

@@ -1,6 +1,7 @@
 -- Each turn reads one byte on.
-use Rattle.std.proofs.Common.{◌≡◌, ◌-◌, ◌<◌, false, length, get_or, take, sym, ap, ◌∙◌, arith}
+use Rattle.std.proofs.Common.{◌≡◌, ◌<◌, false, length, get_or, take, sym, ap, ◌∙◌, arith}
 use Rattle.std.proofs.lemmas.List.{at_drop_all}
+use Rattle.std.proofs.lemmas.Result.{err_from_is_err_and}
 use Rattle.tag.specs.Answers.Answer.{allowed}
 use Rattle.tag.specs.Bytes.{last_byte, ends_in_lock}
 use Rattle.tag.specs.Names.{pair, reads}
@@ -9,18 +10,19 @@ use Rattle.tag.proofs.Reading.{reads_ordinary, reads_pair, reads_on, reads_lock,
 use Rattle.tag.proofs.read.Goals as goal
 use Rattle.tag.proofs.read.Goals.{else-byte-eq47-via-then-byte-eq47+else-ends_in_lock, else-byte-eq47-via-else-byte-eq47}
 
-pub returns-in-Some : goal.returns-in-Some
-returns-in-Some c =
-    reads_pair c.args.input.now c.loop-i.i c.in-Some.fault (omega arith)
-    (c.in-Some.ensures.finds (last_byte (take c.loop-i.i c.args.input.now)) c.loop-i.invariant.0)
-    ∙ c.loop-i.invariant.1
+pub returns-in_err-step : goal.returns-in_err-step
+returns-in_err-step c =
+    let p = err_from_is_err_and c.from_residual.result c.from_residual.ensures.1 in
+    rw (p.1, p.2)
+    (reads_pair c.args.input.now c.loop-i.i _ (omega arith)
+    (c.in_err-step.ensures.finds (last_byte (take c.loop-i.i c.args.input.now)) c.loop-i.invariant.0)
+    ∙ c.loop-i.invariant.1)
 
 pub returns-then-ends_in_lock : goal.returns-then-ends_in_lock
 returns-then-ends_in_lock c =
-    let z : c.loop-i.i - 0 ≡ c.loop-i.i = omega arith in
     reads_lock c.args.input.now c.loop-i.i (omega arith)
-    (c.in_default.ensures.finds (last_byte (take c.loop-i.i c.args.input.now)) c.loop-i.invariant.0)
-    c.if-byte-eq47.true (sym (rw z at c.if-ends_in_lock.ensures))
+    (c.in_ok-step.ensures.finds (last_byte (take c.loop-i.i c.args.input.now)) c.loop-i.invariant.0)
+    c.if-byte-eq47.true (sym c.if-ends_in_lock.ensures)
     ∙ c.loop-i.invariant.1
 
 pub loop-i-preserved-then-ordinary : goal.loop-i-preserved-then-ordinary
@@ -31,12 +33,11 @@ loop-i-preserved-then-ordinary c =
 pub loop-i-preserved : goal.loop-i-preserved
 loop-i-preserved c =
     let lt : c.loop-i.i < length c.args.input.now = omega arith in
-    let z : c.loop-i.i - 0 ≡ c.loop-i.i = omega arith in
     let clear : allowed ≡ pair (last_byte (take c.loop-i.i c.args.input.now)) (get_or c.args.input.now c.loop-i.i 0) =
-    c.in_default.ensures.finds (last_byte (take c.loop-i.i c.args.input.now)) c.loop-i.invariant.0 in
+    c.in_ok-step.ensures.finds (last_byte (take c.loop-i.i c.args.input.now)) c.loop-i.invariant.0 in
     let unlocked : get_or c.args.input.now c.loop-i.i 0 ≡ 47 → ends_in_lock (take c.loop-i.i c.args.input.now) ≡ false =
     elim c.else-byte-eq47.branch [
-      | else-byte-eq47-via-then-byte-eq47+else-ends_in_lock w ↦ λ _. sym (rw z at w.if-ends_in_lock.ensures)
+      | else-byte-eq47-via-then-byte-eq47+else-ends_in_lock w ↦ λ _. sym w.if-ends_in_lock.ensures
       | else-byte-eq47-via-else-byte-eq47 w ↦ λ e. absurd (w.if-byte-eq47.false e)
     ] in (
       c.step.ensures.moves ∙ ap after (sym (last_byte_more c.args.input.now c.loop-i.i lt)),

@@ -1,8 +1,7 @@
--- The meaning, layer by layer.
-use Rattle.std.proofs.Common.{refl}
+-- Components lie together by one of the three keys.
 use Rattle.protections.specs.Keys.{hfs_key, ntfs_key}
 use Rattle.filesystems.proofs.Heaped.{three_decides}
 use Rattle.filesystems.proofs.piles.mac_and_windows.Goals as goal
 
-pub returns : goal.returns
-returns c = record { verdicts = λ s mode. refl; confuses = λ a b. three_decides hfs_key ntfs_key a b; compares = refl }
+pub returns-clause-confuses : goal.returns-clause-confuses
+returns-clause-confuses c = three_decides hfs_key ntfs_key

@@ -1,5 +1,7 @@
--- The lines before what is left are added.
-use Rattle.std.proofs.Common.{◌≡◌, ◌++◌, map, length, vec_items}
+-- The lines before those that are left are added, and the answers of their calls are taken.
+use Rattle.std.proofs.Common.{◌≡◌, ◌++◌, map, vec_items}
+use Rattle.std.specs.Slice.Iter.{iter_rest}
+use Rattle.lines.specs.Left.{lines_left}
 use Rattle.lines.specs.Lines.{lines}
 use Rattle.register.specs.Faults.{outcome_of}
 use Rattle.listing.specs.Report.{answer_lines}
@@ -7,8 +9,5 @@ use Rattle.listing.proofs.reports.add_answers.Given as goal
 
 abbrev pub invariant-loop-line : goal.invariant-loop-line
 invariant-loop-line l =
-    vec_items l.report ++ answer_lines (lines l.rest) (map outcome_of l.left)
+    vec_items l.report ++ answer_lines (lines_left l.line-iterator) (map outcome_of (iter_rest l.left))
     ≡ vec_items l.initial.report ++ answer_lines (lines l.input) (map outcome_of l.answers)
-
-abbrev pub decreases-loop-line : goal.decreases-loop-line
-decreases-loop-line l = length l.rest

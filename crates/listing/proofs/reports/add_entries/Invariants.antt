@@ -1,11 +1,12 @@
--- The entries before the place are added.
-use Rattle.std.proofs.Common.{◌≡◌, ◌++◌, drop, vec_items}
+-- The entries before those that are left are added.
+use Rattle.std.proofs.Common.{◌≡◌, ◌++◌, vec_items}
 use Rattle.std.specs.List.{flat_map}
 use Rattle.register.specs.Registers.{entries_in}
+use Rattle.register.specs.Shown.{entries_left}
 use Rattle.listing.specs.Report.{entry_line}
 use Rattle.listing.proofs.reports.add_entries.Given as goal
 
-abbrev pub invariant-loop-place : goal.invariant-loop-place
-invariant-loop-place g l =
-    vec_items l.report ++ flat_map entry_line (drop l.place (entries_in l.register))
+abbrev pub invariant-loop-entry : goal.invariant-loop-entry
+invariant-loop-entry g l =
+    vec_items l.report ++ flat_map entry_line (entries_left l.entry-iterator)
     ≡ vec_items l.initial.report ++ flat_map entry_line (entries_in l.register)

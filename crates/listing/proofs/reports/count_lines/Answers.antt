@@ -1,7 +1,6 @@
-use Rattle.std.proofs.Common.{length, ap, arith}
-use Rattle.lines.specs.Lines.{lines}
+use Rattle.std.proofs.Common.{length, inl, ap, arith}
+use Rattle.listing.proofs.Reporting.{few_lines}
 use Rattle.listing.proofs.reports.count_lines.Goals as goal
 
-pub returns : goal.returns
-unfolding lines
-returns c = omega (arith, c.loop-next.invariant.0, ap (λ s. length (lines s)) c.in_default.ensures.splits)
+pub count-requires-clause-fits : goal.count-requires-clause-fits
+count-requires-clause-fits c = inl (omega (arith, few_lines c.args.input.now, ap length c.of.ensures))

@@ -1,20 +1,25 @@
--- The steps of the search through the names.
-use Rattle.std.proofs.Common.{sym, ◌∙◌}
-use Rattle.protections.proofs.Lent.{names_all, names_yes, names_no, names_end}
+-- The names are asked one after the other.
+use Rattle.std.proofs.Common.{◌≡◌, ℕ, Bool, true, Bor, List, sym, ◌∙◌, subst, rules}
+use Rattle.std.proofs.lemmas.Iterator.{YieldsList-from_slice}
+use Rattle.std.proofs.lemmas.Iterator.Adapters.{serves_from_places}
+use Rattle.std.proofs.lemmas.Iterator.Search.{any_from_yields_List}
+use borrow.Author.Tests.{tests}
+use Rattle.protections.specs.Words.{equals}
+use Rattle.protections.specs.Keys.{cut_key, cut_name}
+use Rattle.protections.proofs.Lent.{names_all, names_listed}
 use Rattle.protections.proofs.cut_names.cut_named_among.Goals as goal
 
-pub loop-name-preserved : goal.loop-name-preserved
-loop-name-preserved g c =
-    sym (names_no _ c.args.names.now c.loop-name.name-index _ c.loop-name-test.true c.if-cut_named.ensures)
-    ∙ c.loop-name.invariant
-
-pub returns-then-cut_named : goal.returns-then-cut_named
-returns-then-cut_named g c =
-    sym (names_yes _ c.args.names.now c.loop-name.name-index _ c.loop-name-test.true c.if-cut_named.ensures)
-    ∙ c.loop-name.invariant
+pub any-requires-clause-callable : goal.any-requires-clause-callable
+any-requires-clause-callable g c =
+    let names = c.args.names.now in
+    serves_from_places (YieldsList-from_slice names (cc)) (λ x q k. search rules)
+    (λ x k l e.
+    let n : cut_name g.C.Cut.stops g.C.Cut.fillers x.now.now ≡ true = subst (λ m. cut_name g.C.Cut.stops g.C.Cut.fillers m.now ≡ true) (sym e) (names_all _ names k x.now l c.requires) in
+    search rules)
 
 pub returns : goal.returns
-returns g c = sym (names_end _ c.args.names.now c.loop-name.name-index c.loop-name-test.false) ∙ c.loop-name.invariant
-
-pub cut_named-requires : goal.cut_named-requires
-cut_named-requires g c = names_all _ c.args.names.now c.loop-name.name-index _ c.loop-name-test.true c.requires
+returns g c =
+    let key = cut_key g.C.Cut.stops g.C.Cut.fillers c.args.component.now in
+    let is_key : Bor (List ℕ) → Bool = λ n. equals key n.now in
+    any_from_yields_List is_key _ _ c.any.result c.any.ensures.ran (YieldsList-from_slice c.args.names.now (cc)) (λ x b q k. search (rules, tests))
+    ∙ names_listed key c.args.names.now

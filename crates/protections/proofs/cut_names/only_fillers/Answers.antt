@@ -1,25 +1,19 @@
 -- The first byte that is no filler decides.
-use Rattle.std.proofs.Common.{◌∙◌}
-use Rattle.protections.proofs.CutKey.{rest_more, rest_stop, rest_end}
+use Rattle.std.proofs.Common.{ℕ, Bool, not, true, ap, ◌∙◌, rules}
+use Rattle.std.proofs.lemmas.Iterator.{YieldsList-from_slice}
+use Rattle.std.proofs.lemmas.Iterator.Search.{find_from_yields_List}
+use borrow.Author.Tests.{tests}
+use Rattle.protections.specs.Words.{among}
+use Rattle.protections.proofs.CutKey.{only_fillers_by, rest_first}
+use Rattle.protections.proofs.Equal.{tested, test_mapped}
 use Rattle.protections.proofs.cut_names.only_fillers.Goals as goal
-
-pub loop-byte-preserved : goal.loop-byte-preserved
-loop-byte-preserved g c =
-    rest_more g.C.Cut.stops g.C.Cut.fillers g.met.C.Cut.apart c.past_blocks-rest.result.now c.loop-byte.byte-index
-    c.loop-byte-test.true
-    c.if-not-is_filler.ensures
-    ∙ c.loop-byte.invariant
-
-pub returns-then-not-is_filler : goal.returns-then-not-is_filler
-returns-then-not-is_filler g c =
-    c.is_stop.ensures
-    ∙ rest_stop g.C.Cut.stops g.C.Cut.fillers c.past_blocks-rest.result.now c.loop-byte.byte-index c.loop-byte-test.true
-    c.if-not-is_filler.ensures
-    ∙ c.loop-byte.invariant
-    ∙ c.past_blocks-rest.ensures
 
 pub returns : goal.returns
 returns g c =
-    rest_end g.C.Cut.stops g.C.Cut.fillers c.past_blocks-rest.result.now c.loop-byte.byte-index c.loop-byte-test.false
-    ∙ c.loop-byte.invariant
-    ∙ c.past_blocks-rest.ensures
+    let other : ℕ → Bool = λ b. not (among g.C.Cut.fillers b) in
+    tested (λ x. among g.C.Cut.stops x.now) true c.find.result c.is_none_or.result _ c.is_none_or.ensures (λ x p. search rules)
+    ∙ test_mapped (λ x. x.now) (among g.C.Cut.stops) c.find.result true
+    ∙ ap (only_fillers_by g.C.Cut.stops g.C.Cut.fillers)
+    (find_from_yields_List other _ _ c.find.result c.find.ensures.ran (YieldsList-from_slice c.past_blocks.result.now (cc)) (λ x b q k. search (rules, tests)))
+    ∙ rest_first g.C.Cut.stops g.C.Cut.fillers g.met.C.Cut.apart c.past_blocks.result.now
+    ∙ c.past_blocks.ensures

@@ -4,10 +4,10 @@ use Rattle.protections.specs.Words.{equals}
 use Rattle.protections.specs.Keys.{cut_key}
 use Rattle.protections.proofs.cut_names.past_blocks.Given as goal
 
-abbrev pub invariant-loop-rest : goal.invariant-loop-rest
-invariant-loop-rest g l =
+abbrev pub invariant-loop-after : goal.invariant-loop-after
+invariant-loop-after g l =
     equals (cut_key g.C.Cut.stops g.C.Cut.fillers l.rest) []
     ≡ equals (cut_key g.C.Cut.stops g.C.Cut.fillers l.bytes) []
 
-abbrev pub decreases-loop-rest : goal.decreases-loop-rest
-decreases-loop-rest g l = length l.rest
+abbrev pub decreases-loop-after : goal.decreases-loop-after
+decreases-loop-after g l = length l.rest

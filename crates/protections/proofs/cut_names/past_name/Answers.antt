@@ -1,38 +1,27 @@
--- The name and the component are compared from the front, and then what is left of the component decides.
-use Rattle.std.proofs.Common.{sym, ◌∙◌, rules}
-use Rattle.std.proofs.lemmas.List.{nil_from_length}
-use Rattle.protections.proofs.CutKey.{name_same, name_other, name_left, name_none, name_end}
+-- The name stands at the front or not, and then what is left of the component decides.
+use Rattle.protections.proofs.CutKey.{name_same, name_other, name_short}
 use Rattle.protections.proofs.cut_names.past_name.Goals as goal
+use Rattle.protections.proofs.cut_names.past_name.Goals.{in_default-via-in-Some+else-named, in_default-via-in_default}
 
-pub returns-in-empty : goal.returns-in-empty
-returns-in-empty g c =
-    name_none g.C.Cut.stops g.C.Cut.fillers c.loop-byte.rest.now c.args.name.now c.loop-byte.byte-index c.loop-byte-test.true
-    (nil_from_length c.loop-byte.rest.now (search rules))
-    ∙ c.loop-byte.invariant.0
+pub returns-in-Some : goal.returns-in-Some
+returns-in-Some g c =
+    let s = c.in-Some.ensures.cases in
+    name_same g.C.Cut.stops g.C.Cut.fillers g.met.C.Cut.stopped g.met.C.Cut.filled c.args.name.now c.args.component.now c.requires
+    c.in-Some.front.now
+    c.in-Some.rest.now
+    s.1
+    s.2
+    c.if-named.ensures
 
-pub returns-then-to_ascii_lowercase-byte : goal.returns-then-to_ascii_lowercase-byte
-returns-then-to_ascii_lowercase-byte g c =
-    name_other g.C.Cut.stops g.C.Cut.fillers g.met.C.Cut.stopped g.met.C.Cut.filled c.loop-byte.rest.now c.args.name.now
-    c.loop-byte.byte-index
-    c.loop-byte-test.true
-    (search rules)
-    c.loop-byte.invariant.1
-    (λ e. c.if-to_ascii_lowercase-byte.true (c.to_ascii_lowercase.ensures.value ∙ e))
-    ∙ c.loop-byte.invariant.0
-
-pub loop-byte-preserved : goal.loop-byte-preserved
-loop-byte-preserved g c = (
-  name_same g.C.Cut.stops g.C.Cut.fillers g.met.C.Cut.stopped g.met.C.Cut.filled c.loop-byte.rest.now c.args.name.now
-      c.loop-byte.byte-index
-      c.loop-byte-test.true
-      (search rules)
-      c.loop-byte.invariant.1
-      (sym c.to_ascii_lowercase.ensures.value ∙ c.if-to_ascii_lowercase-byte.false)
-      ∙ c.loop-byte.invariant.0,
-  name_left g.C.Cut.stops g.C.Cut.fillers c.args.name.now c.loop-byte.byte-index c.loop-byte-test.true c.loop-byte.invariant.1,
-)
-
-pub returns : goal.returns
-returns g c =
-    name_end g.C.Cut.stops g.C.Cut.fillers c.loop-byte.rest.now c.args.name.now c.loop-byte.byte-index c.loop-byte-test.false
-    ∙ c.loop-byte.invariant.0
+pub returns-in_default : goal.returns-in_default
+returns-in_default g c =
+    elim c.in_default.branch [
+      | in_default-via-in-Some+else-named w ↦
+          name_other g.C.Cut.stops g.C.Cut.fillers g.met.C.Cut.stopped g.met.C.Cut.filled c.args.name.now c.args.component.now c.requires
+          w.in-Some.front.now
+          w.in-Some.ensures.cases.1
+          w.if-named.ensures
+      | in_default-via-in_default w ↦
+          name_short g.C.Cut.stops g.C.Cut.fillers g.met.C.Cut.stopped g.met.C.Cut.filled c.args.name.now c.args.component.now c.requires
+          w.in_default.ensures.cases
+    ]

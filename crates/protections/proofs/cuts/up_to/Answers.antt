@@ -1,19 +1,18 @@
--- The loop of `up_to` stops at the first byte of the set, or at the end.
-use Rattle.std.proofs.Common.{sym}
-use Rattle.protections.proofs.Cut.{passed_more, passed_stop, passed_all}
+-- The bytes that are counted are those before the first of the set.
+use Rattle.std.proofs.Common.{ℕ, Bool, not, take, ap, ◌∙◌, rules}
+use Rattle.std.proofs.lemmas.Iterator.{YieldsList-from_slice}
+use Rattle.std.proofs.lemmas.Iterator.Consumers.{count_from_yields_List}
+use Rattle.std.proofs.lemmas.Iterator.Search.{YieldsList-from_take_while}
+use Rattle.std.proofs.lemmas.List.Folds.{length-prefix_len}
+use borrow.Author.Tests.{tests}
+use Rattle.protections.specs.Words.{among}
 use Rattle.protections.proofs.cuts.up_to.Goals as goal
-use Rattle.protections.proofs.cuts.up_to.Goals.{then-loop-end-test+else-not-one_of, else-loop-end-test}
-
-pub loop-end-preserved : goal.loop-end-preserved
-loop-end-preserved c =
-    passed_more c.args.set.now c.args.bytes.now c.loop-end.end c.loop-end.invariant c.loop-end-test.true
-    (sym c.if-not-one_of.ensures)
 
 pub returns : goal.returns
 returns c =
-    elim c.loop-end-test.branch [
-      | then-loop-end-test+else-not-one_of w ↦
-          passed_stop c.args.set.now c.args.bytes.now c.loop-end.end c.loop-end.invariant w.loop-end-test.true
-          (sym w.if-not-one_of.ensures)
-      | else-loop-end-test w ↦ passed_all c.args.set.now c.args.bytes.now c.loop-end.end c.loop-end.invariant w.loop-end-test.false
-    ]
+    let s = c.args.bytes.now in
+    let outside : ℕ → Bool = λ b. not (among c.args.set.now b) in
+    ap (λ n. take n s)
+    (count_from_yields_List c.take_while.result c.count-end.result c.count-end.ensures.ran
+    (YieldsList-from_take_while _ outside (YieldsList-from_slice s (cc)) c.take_while.ensures.closure c.take_while.ensures.done (λ x b q k. search (rules, tests)))
+    ∙ length-prefix_len outside s)

@@ -1,22 +1,18 @@
--- The loop of `without_end` stops at the last byte that is not in the set, or at the start.
-use Rattle.std.proofs.Common.{sym}
-use Rattle.protections.proofs.Cut.{left_whole, left_more, left_stop, left_none}
+-- The bytes that are counted from the end are those of the set.
+use Rattle.std.proofs.Common.{ℕ, Bool, ◌-◌, length, reverse, take, ap, ◌∙◌, rules}
+use Rattle.std.proofs.lemmas.Iterator.Adapters.{YieldsList-from_rev_slice}
+use Rattle.std.proofs.lemmas.Iterator.Consumers.{count_from_yields_List}
+use Rattle.std.proofs.lemmas.Iterator.Search.{YieldsList-from_take_while}
+use Rattle.std.proofs.lemmas.List.Folds.{length-prefix_len}
+use borrow.Author.Tests.{tests}
+use Rattle.protections.specs.Words.{among}
 use Rattle.protections.proofs.cuts.without_end.Goals as goal
-use Rattle.protections.proofs.cuts.without_end.Goals.{then-loop-end-test+else-one_of, else-loop-end-test}
-
-pub loop-end-init : goal.loop-end-init
-loop-end-init c = left_whole c.args.set.now c.args.bytes.now
-
-pub loop-end-preserved : goal.loop-end-preserved
-loop-end-preserved c =
-    left_more c.args.set.now c.args.bytes.now c.loop-end.end c.loop-end.invariant c.loop-end-test.true
-    (sym c.if-one_of.ensures)
 
 pub returns : goal.returns
 returns c =
-    elim c.loop-end-test.branch [
-      | then-loop-end-test+else-one_of w ↦
-          left_stop c.args.set.now c.args.bytes.now c.loop-end.end c.loop-end.invariant w.loop-end-test.true
-          (sym w.if-one_of.ensures)
-      | else-loop-end-test w ↦ left_none c.args.set.now c.args.bytes.now c.loop-end.end c.loop-end.invariant w.loop-end-test.false
-    ]
+    let s = c.args.bytes.now in
+    let inside : ℕ → Bool = among c.args.set.now in
+    ap (λ n. take (length s - n) s)
+    (count_from_yields_List c.take_while.result c.count-cut.result c.count-cut.ensures.ran
+    (YieldsList-from_take_while _ inside (YieldsList-from_rev_slice s (cc)) c.take_while.ensures.closure c.take_while.ensures.done (λ x b q k. search (rules, tests)))
+    ∙ length-prefix_len inside (reverse s))

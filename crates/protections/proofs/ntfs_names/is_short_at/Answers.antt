@@ -1,14 +1,10 @@
 -- The rest has no letters, and the front is compared with its letters made small.
-use Rattle.std.proofs.Common.{◌∙◌}
-use Rattle.protections.proofs.Short.{too_short, other_back, same_back}
+use Rattle.std.proofs.Common.{false, ◌∙◌, rules}
+use Rattle.protections.proofs.Equal.{tested}
+use Rattle.protections.proofs.Short.{parts_short, short_by}
 use Rattle.protections.proofs.ntfs_names.is_short_at.Goals as goal
 
-pub returns-then-kept-name : goal.returns-then-kept-name
-returns-then-kept-name c = too_short c.args.name.now c.args.kept c.if-kept-name.true
-
-pub returns-then-is_numbered : goal.returns-then-is_numbered
-returns-then-is_numbered c =
-    same_back c.args.name.now c.args.kept c.if-is_numbered.ensures c.named.result c.named.ensures
-
-pub returns-else-is_numbered : goal.returns-else-is_numbered
-returns-else-is_numbered c = c.if-is_numbered.false ∙ other_back c.args.name.now c.args.kept c.if-is_numbered.ensures
+pub returns : goal.returns
+returns c =
+    tested (parts_short c.args.name.now c.args.kept) false c.split_at_checked.result c.is_some_and.result _ c.is_some_and.ensures (λ p h. search rules)
+    ∙ short_by c.args.name.now c.args.kept c.split_at_checked.result c.split_at_checked.ensures.cases

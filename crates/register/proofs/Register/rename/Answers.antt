@@ -1,56 +1,64 @@
-use Rattle.std.proofs.Common.{sym, refl, ap, ◌∙◌, arith}
+use Rattle.std.proofs.Common.{sym, refl, ap, ◌∙◌}
+use Rattle.std.specs.List.{remove as without}
 use Rattle.std.proofs.lemmas.Result.{err_from_is_err_and}
 use Rattle.claims.specs.Calls.Call.{rename}
 use Rattle.claims.specs.Calls.Outcome.{accepted}
-use Rattle.register.specs.Meanings.{meaning_of}
-use Rattle.register.specs.Rows.{entries_of}
-use Rattle.register.proofs.Answering.{accepted_leaves, refused_leaves, rename_accepted, rename_faulty, rename_met, rename_unkept, renamed_entry}
-use Rattle.register.proofs.Naming.{fine_short}
+use Rattle.claims.specs.Entries.{put, slot}
+use Rattle.register.specs.Entries.{renamed}
+use Rattle.register.specs.Meanings.{meaning_in}
+use Rattle.register.specs.Registers.{entries_in}
+use Rattle.register.proofs.Answering.{accepted_leaves, place_kept, place_refused, refused_leaves, rename_accepted, rename_faulty, rename_met, rename_unkept, renamed_entry}
 use Rattle.register.proofs.Striking.{stands}
-use Rattle.register.proofs.Tables.{count_length}
 use Rattle.register.proofs.Register.rename.Goals as goal
 
-pub returns-in_err-check_name : goal.returns-in_err-check_name
-returns-in_err-check_name g c =
-    let m = meaning_of g.R.Rulebook g.F.FileSystem c.args.self.now.files in
-    let es = entries_of c.args.self.now.table in
+pub returns-in_err-kept : goal.returns-in_err-kept
+returns-in_err-kept g c =
+    let m = meaning_in g.R.Rulebook g.F.FileSystem c.args.self.now in
+    let es = entries_in c.args.self.now in
     let p = err_from_is_err_and c.from_residual.result c.from_residual.ensures.1 in
-    let a = rename_faulty m es c.args.old.now c.args.new.now c.args.mode _ c.in_err-check_name.ensures in
+    let a = rename_faulty m es c.args.old.now c.args.new.now c.args.mode _ c.in_err-kept.ensures.fault in
     rw (p.1, p.2)
     (record { answer = a; entries = refused_leaves m es (rename c.args.old.now c.args.new.now c.args.mode) _ a; same_rules = (refl, refl); unaltered = refl })
 
-pub returns-in_default : goal.returns-in_default
-returns-in_default g c =
-    let m = meaning_of g.R.Rulebook g.F.FileSystem c.args.self.now.files in
-    let es = entries_of c.args.self.now.table in
-    let a = rename_unkept m es c.args.old.now c.args.new.now c.args.mode c.in_ok-check_name.ensures c.in_default.ensures in
-    record { answer = a; entries = refused_leaves m es (rename c.args.old.now c.args.new.now c.args.mode) _ a; same_rules = (refl, refl); unaltered = refl }
+pub returns-in_err-from : goal.returns-in_err-from
+returns-in_err-from g c =
+    let m = meaning_in g.R.Rulebook g.F.FileSystem c.args.self.now in
+    let es = entries_in c.args.self.now in
+    let p = err_from_is_err_and c.from_residual-in_err-from.result c.from_residual-in_err-from.ensures.1 in
+    let k = place_refused _ _ _ (sym c.ok_or.ensures.value ∙ c.in_err-from.was) in
+    let a = rename_unkept m es c.args.old.now c.args.new.now c.args.mode c.in_ok-kept.ensures.fault (k.0 ∙ c.place_of.ensures) in
+    rw (p.1, p.2, k.1)
+    (record { answer = a; entries = refused_leaves m es (rename c.args.old.now c.args.new.now c.args.mode) _ a; same_rules = (refl, refl); unaltered = refl })
 
-pub returns-in-Some-first_meeting : goal.returns-in-Some-first_meeting
-returns-in-Some-first_meeting g c =
-    let m = meaning_of g.R.Rulebook g.F.FileSystem c.args.self.now.files in
-    let es = entries_of c.args.self.now.table in
-    let a = rename_met m es c.args.old.now c.args.new.now c.args.mode c.in_ok-check_name.ensures _ c.in-Some.ensures _ c.in-Some-first_meeting.ensures in
-    record { answer = a; entries = refused_leaves m es (rename c.args.old.now c.args.new.now c.args.mode) _ a; same_rules = (refl, refl); unaltered = refl }
+pub returns-in-Some : goal.returns-in-Some
+returns-in-Some g c =
+    let m = meaning_in g.R.Rulebook g.F.FileSystem c.args.self.now in
+    let es = entries_in c.args.self.now in
+    let k = place_kept _ _ _ (sym c.ok_or.ensures.value ∙ c.in_ok-from.was) ∙ c.place_of.ensures in
+    let a = rename_met m es c.args.old.now c.args.new.now c.args.mode c.in_ok-kept.ensures.fault _ k _ c.in-Some.ensures in
+    rw c.into.ensures
+    (record { answer = a; entries = refused_leaves m es (rename c.args.old.now c.args.new.now c.args.mode) _ a; same_rules = (refl, refl); unaltered = refl })
 
 pub rename-requires : goal.rename-requires
 rename-requires g c =
-    let s = stands c.args.old.now (entries_of c.args.self.now.table) _ (sym c.in-Some.ensures) in (
-      omega (arith, s.inside, count_length c.args.self.now.table),
-      fine_short (meaning_of g.R.Rulebook g.F.FileSystem c.args.self.now.files) c.args.new.now c.args.mode c.in_ok-check_name.ensures,
-    )
+    let k = place_kept _ _ _ (sym c.ok_or.ensures.value ∙ c.in_ok-from.was) ∙ c.place_of.ensures in
+    let s = stands c.args.old.now (entries_in c.args.self.now) _ (sym k) in
+    s.inside
 
 pub returns : goal.returns
 returns g c =
-    let m = meaning_of g.R.Rulebook g.F.FileSystem c.args.self.now.files in
-    let es = entries_of c.args.self.now.table in
-    let s = stands c.args.old.now es _ (sym c.in-Some.ensures) in
-    let a = rename_accepted m es c.args.old.now c.args.new.now c.args.mode c.in_ok-check_name.ensures _ c.in-Some.ensures c.in_default-first_meeting.ensures s in
+    let m = meaning_in g.R.Rulebook g.F.FileSystem c.args.self.now in
+    let es = entries_in c.args.self.now in
+    let name = c.in_ok-kept.ensures.name in
+    let k = place_kept _ _ _ (sym c.ok_or.ensures.value ∙ c.in_ok-from.was) ∙ c.place_of.ensures in
+    let s = stands c.args.old.now es _ (sym k) in
+    let a = rename_accepted m es c.args.old.now c.args.new.now c.args.mode c.in_ok-kept.ensures.fault _ k c.in_default.ensures s in
     record {
-      answer = ap accepted c.rename.ensures.place ∙ a;
+      answer = ap accepted (c.rename.ensures.place ∙ ap (λ z. slot z (without es c.in_ok-from.from)) name) ∙ a;
       entries = c.rename.ensures.entries
+          ∙ (ap (λ z. put (renamed es c.in_ok-from.from z c.args.mode) (without es c.in_ok-from.from)) name
           ∙ (renamed_entry m es c.args.old.now c.args.new.now c.args.mode _ s
-          ∙ accepted_leaves m es (rename c.args.old.now c.args.new.now c.args.mode) _ a);
+          ∙ accepted_leaves m es (rename c.args.old.now c.args.new.now c.args.mode) _ a));
       same_rules = (refl, refl);
       unaltered = tt;
     }

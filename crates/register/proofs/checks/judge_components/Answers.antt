@@ -1,32 +1,47 @@
 -- Each turn judges one component.
-use Rattle.std.proofs.Common.{◌≡◌, ◌+◌, ◌-◌, ◌<◌, length, ap, ◌∙◌, arith}
-use Rattle.std.proofs.lemmas.List.{length-drop, take_rest}
+use Rattle.std.proofs.Common.{◌≡◌, ℕ, ◌≤◌, ◌-◌, List, [], ◌∷◌, length, refl, ap, sym, ◌∙◌, inl, inr, arith}
 use Rattle.std.proofs.lemmas.Result.{err_from_is_err_and}
 use Rattle.tag.specs.Components.{components}
 use Rattle.claims.specs.Calls.{first_verdict}
-use Rattle.register.proofs.Judging.{first_decides, last_decides, others_decide}
+use Rattle.meetings.proofs.Meetings.{some_component}
+use Rattle.register.proofs.Judging.{Own, length-components, others_decide, parts_counted, verdict_decides}
 use Rattle.register.proofs.checks.judge_components.Goals as goal
+use Rattle.register.proofs.checks.judge_components.Goals.{then-index-last, else-index-last}
 
-pub returns-then-end-rest : goal.returns-then-end-rest
-returns-then-end-rest g c =
-    c.judge.ensures ∙ (last_decides _ _ _ _ _ c.component_end-end.ensures c.if-end-rest.true ∙ c.loop-rest.invariant.0)
+some_counted : {X : Type 0} (xs : List X) (n : ℕ) → n ≡ length xs → (xs ≡ [] → ⊥) → 1 ≤ n
+some_counted [] n e h = absurd (h refl)
+some_counted (x ∷ xs) n e h = omega arith
+
+pub count-last-requires-clause-fits : goal.count-last-requires-clause-fits
+count-last-requires-clause-fits g c = inl (omega (arith, ap length c.of.ensures, length-components c.deref.result.now))
+
+pub overflow_sub-last : goal.overflow_sub-last
+overflow_sub-last g c =
+    let counted = parts_counted c.args.name.now.items _ c.of.ensures c.deref.ensures.0 c.count-last.ensures.ran in
+    some_counted (components c.args.name.now.items) c.count-last.result counted (some_component c.args.name.now.items)
+
+pub loop-index-preserved : goal.loop-index-preserved
+loop-index-preserved g c =
+    let counted = parts_counted c.args.name.now.items _ c.of.ensures c.deref.ensures.0 c.count-last.ensures.ran in
+    let own : Own c.args.mode (c.count-last.result - 1) c.in-Some.index c.if-index-last.own =
+    elim c.if-index-last.branch [ then-index-last w ↦ inl (w.if-index-last.true, w.own-is) | else-index-last w ↦ inr (w.if-index-last.false, w.own-is) ] in
+    let step = c.in-Some.ensures.steps in
+    let more = others_decide (g.F.FileSystem.judged c.args.files.now) c.args.mode (c.count-last.result - 1) _ _ c.in-Some.index _ _ (length (components c.args.name.now.items)) c.in-Some.component.now c.if-index-last.own
+    step.0 step.1 step.2 c.loop-index.invariant.index (ap (λ n. n - 1) counted) own c.in_ok-judge.ensures in
+    record { verdict = more ∙ c.loop-index.invariant.verdict; index = omega (arith, ap length step.0, step.2, c.loop-index.invariant.index) }
 
 pub returns-in_err-judge : goal.returns-in_err-judge
 returns-in_err-judge g c =
+    let counted = parts_counted c.args.name.now.items _ c.of.ensures c.deref.ensures.0 c.count-last.ensures.ran in
+    let own : Own c.args.mode (c.count-last.result - 1) c.in-Some.index c.if-index-last.own =
+    elim c.if-index-last.branch [ then-index-last w ↦ inl (w.if-index-last.true, w.own-is) | else-index-last w ↦ inr (w.if-index-last.false, w.own-is) ] in
+    let step = c.in-Some.ensures.steps in
     let p = err_from_is_err_and c.from_residual.result c.from_residual.ensures.1 in
-    let z : c.component_end-end.result - 0 ≡ c.component_end-end.result = omega arith in
-    let l : c.component_end-end.result < length c.loop-rest.rest.now = omega (arith, c.component_end-end.ensures.0) in
     rw (p.1, p.2)
-    (first_decides (g.F.FileSystem.judged c.args.files.now) c.args.mode _ _ _ c.component_end-end.ensures l _ (rw z at c.in_err-judge.ensures) ∙ c.loop-rest.invariant.0)
+    (verdict_decides (g.F.FileSystem.judged c.args.files.now) c.args.mode (c.count-last.result - 1) _ _ c.in-Some.index _ _ (length (components c.args.name.now.items)) c.in-Some.component.now c.if-index-last.own
+    step.0 step.1 step.2 c.loop-index.invariant.index (ap (λ n. n - 1) counted) own _ c.in_err-judge.ensures
+    ∙ c.loop-index.invariant.verdict)
 
-pub loop-rest-preserved : goal.loop-rest-preserved
-loop-rest-preserved g c =
-    let n = c.component_end-end.result in
-    let s = c.loop-rest.rest.now in
-    let z : n - 0 ≡ n = omega arith in
-    let l : n < length s = omega (arith, c.component_end-end.ensures.0) in
-    let r = take_rest s (n + 1) in (
-      ap (λ t. first_verdict (g.F.FileSystem.judged c.args.files.now) c.args.mode (c.loop-rest.index + 1) (components t)) r
-          ∙ (others_decide (g.F.FileSystem.judged c.args.files.now) c.args.mode _ s n c.component_end-end.ensures l (rw z at c.in_ok-judge.ensures) ∙ c.loop-rest.invariant.0),
-      omega (arith, ap length r, length-drop (n + 1) s),
-    )
+pub returns : goal.returns
+unfolding first_verdict
+returns g c = ap (first_verdict (g.F.FileSystem.judged c.args.files.now) c.args.mode _) (sym c.in-None.ensures.steps.0.0) ∙ c.loop-index.invariant.verdict

@@ -1,14 +1,15 @@
--- What is left decides, and its first component has the index that is reached.
-use Rattle.std.proofs.Common.{◌≡◌, ◌+◌, ◌≤◌, length}
+-- The components that are left decide, the first of which has the index that is reached.
+use Rattle.std.proofs.Common.{◌≡◌, ◌+◌, length}
+use Rattle.std.specs.Iterator.Adapters.{enumerate_count, enumerate_source}
 use Rattle.tag.specs.Components.{components}
+use Rattle.tag.specs.Parts.{parts_left}
 use Rattle.claims.specs.Calls.{first_verdict}
 use Rattle.register.proofs.checks.judge_components.Given as goal
 
-abbrev pub invariant-loop-rest : goal.invariant-loop-rest
-invariant-loop-rest g l =
-    (first_verdict (g.F.FileSystem.judged l.files) l.mode l.index (components l.rest)
-    ≡ first_verdict (g.F.FileSystem.judged l.files) l.mode 0 (components l.name))
-    × (l.index + length l.rest ≤ length l.name)
-
-abbrev pub decreases-loop-rest : goal.decreases-loop-rest
-decreases-loop-rest g l = length l.rest
+abbrev pub invariant-loop-index : goal.invariant-loop-index
+invariant-loop-index g l = record {
+  verdict :
+      first_verdict (g.F.FileSystem.judged l.files) l.mode (enumerate_count l.index-iterator) (parts_left (enumerate_source l.index-iterator))
+      ≡ first_verdict (g.F.FileSystem.judged l.files) l.mode 0 (components l.name.items);
+  index : enumerate_count l.index-iterator + length (parts_left (enumerate_source l.index-iterator)) ≡ length (components l.name.items);
+}

@@ -1,40 +1,43 @@
 -- Each turn rules on one component.
-use Rattle.std.proofs.Common.{◌≡◌, ◌+◌, ◌-◌, ◌<◌, length, take, drop, ap, ◌∙◌, arith}
-use Rattle.std.proofs.lemmas.List.{length-drop, take_rest}
+use Rattle.std.proofs.Common.{◌≡◌, length, inl, ap, ◌∙◌, arith}
 use Rattle.std.proofs.lemmas.Result.{err_from_is_err_and}
-use Rattle.tag.specs.Components.{components}
-use Rattle.rulebooks.specs.Kinds.{leftmost}
-use Rattle.rulebooks.proofs.Paths.{leftmost_refuses, leftmost_ends, leftmost_more}
+use Rattle.std.specs.Iterator.Adapters.{enumerate_count, enumerate_source}
+use Rattle.tag.specs.Parts.{parts_left}
+use Rattle.rulebooks.proofs.Paths.{leftmost_ends, leftmost_more, leftmost_refuses, length-components}
 use Rattle.rulebooks.proofs.trees.check_components.Goals as goal
+
+-- The indices fit: a name has at most one component more than bytes.
+pub loop-index-init-derived : goal.loop-index-init-derived
+loop-index-init-derived c =
+    let turns = c.into_iter-index-iterator.result in
+    let first : enumerate_count turns ≡ 0 = cc in
+    let same : enumerate_source turns ≡ c.of.result = cc in
+    let all = ap parts_left same ∙ c.of.ensures in
+    let short = c.well_formed.0.1 in
+    ((tt, tt, inl (omega (arith, ap length all, length-components c.args.path.now))), tt)
+
+pub loop-index-init : goal.loop-index-init
+loop-index-init c =
+    let turns = c.into_iter-index-iterator.result in
+    let first : enumerate_count turns ≡ 0 = cc in
+    let same : enumerate_source turns ≡ c.of.result = cc in
+    let all = ap parts_left same ∙ c.of.ensures in
+    cc
+
+pub loop-index-preserved : goal.loop-index-preserved
+loop-index-preserved c =
+    let turn = c.in-Some.ensures.steps in
+    let others = leftmost_more c.in-Some.index _ _ _ turn.0 c.in_ok-check_component.ensures in
+    let before = c.loop-index.invariant in
+    cc
 
 pub returns-in_err-check_component : goal.returns-in_err-check_component
 returns-in_err-check_component c =
-    let p = err_from_is_err_and c.from_residual.result c.from_residual.ensures.1 in
-    let z : c.component_end-end.result - 0 ≡ c.component_end-end.result = omega arith in
-    rw (p.1, p.2)
-    (leftmost_refuses c.loop-rest.index c.loop-rest.rest.now c.component_end-end.result c.component_end-end.ensures _ _
-    (rw z at c.in_err-check_component.ensures)
-    ∙ c.loop-rest.invariant.0)
+    let turn = c.in-Some.ensures.steps in
+    let refusal = leftmost_refuses c.in-Some.index _ _ _ turn.0 _ _ c.in_err-check_component.ensures in
+    let before = c.loop-index.invariant in
+    let exit = err_from_is_err_and c.from_residual.result c.from_residual.ensures.1 in
+    rw (exit.1, exit.2) (cc)
 
-pub returns-then-end-rest : goal.returns-then-end-rest
-returns-then-end-rest c =
-    let z : c.component_end-end.result - 0 ≡ c.component_end-end.result = omega arith in
-    leftmost_ends c.loop-rest.index c.loop-rest.rest.now c.component_end-end.result c.component_end-end.ensures c.if-end-rest.true
-    (rw z at c.in_ok-check_component.ensures)
-    ∙ c.loop-rest.invariant.0
-
-pub loop-rest-preserved : goal.loop-rest-preserved
-loop-rest-preserved c =
-    let n = c.component_end-end.result in
-    let s = c.loop-rest.rest.now in
-    let z : c.component_end-end.result - 0 ≡ c.component_end-end.result = omega arith in
-    let b = c.component_end-end.ensures.0 in
-    let l : c.component_end-end.result < length c.loop-rest.rest.now = omega arith in
-    let r : take (length c.loop-rest.rest.now - (c.component_end-end.result + 1)) (drop (c.component_end-end.result + 1) c.loop-rest.rest.now) ≡ drop (c.component_end-end.result + 1) c.loop-rest.rest.now =
-    take_rest c.loop-rest.rest.now (c.component_end-end.result + 1) in (
-      ap (λ t. leftmost (c.loop-rest.index + 1) (components t)) r
-          ∙ leftmost_more c.loop-rest.index c.loop-rest.rest.now c.component_end-end.result c.component_end-end.ensures l
-          (rw z at c.in_ok-check_component.ensures)
-          ∙ c.loop-rest.invariant.0,
-      simp (r, length-drop) (omega arith),
-    )
+pub returns : goal.returns
+returns c = leftmost_ends _ _ c.in-None.ensures.steps.0.0 ∙ c.loop-index.invariant

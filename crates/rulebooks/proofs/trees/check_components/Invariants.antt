@@ -1,13 +1,11 @@
--- What is left decides, and its first component has the index that is reached.
-use Rattle.std.proofs.Common.{◌≡◌, ◌+◌, ◌≤◌, length}
+-- The components that are left decide, and the first of them has the index that is reached.
+use Rattle.std.proofs.Common.{◌≡◌}
+use Rattle.std.specs.Iterator.Adapters.{enumerate_count, enumerate_source}
 use Rattle.tag.specs.Components.{components}
+use Rattle.tag.specs.Parts.{parts_left}
 use Rattle.rulebooks.specs.Kinds.{leftmost}
 use Rattle.rulebooks.proofs.trees.check_components.Given as goal
 
-abbrev pub invariant-loop-rest : goal.invariant-loop-rest
-invariant-loop-rest l =
-    (leftmost l.index (components l.rest) ≡ leftmost 0 (components l.path))
-    × (l.index + length l.rest ≤ length l.path)
-
-abbrev pub decreases-loop-rest : goal.decreases-loop-rest
-decreases-loop-rest l = length l.rest
+abbrev pub invariant-loop-index : goal.invariant-loop-index
+invariant-loop-index l =
+    leftmost (enumerate_count l.index-iterator) (parts_left (enumerate_source l.index-iterator)) ≡ leftmost 0 (components l.path)

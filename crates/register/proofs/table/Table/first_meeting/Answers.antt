@@ -1,47 +1,74 @@
 -- The first row that meets the name ends the search.
-use Rattle.std.proofs.Common.{◌≡◌, ℕ, Bool, true, false, not, ◌&&◌, List, Option, sym, refl, ap, ◌∙◌}
+use Rattle.std.proofs.Common.{true, false, not, ◌&&◌, map, inl, inr, sym, refl, ap, ◌∙◌, arith, ⊎_elim}
 use Rattle.std.specs.Option.{option_map}
 use Rattle.meetings.specs.Meeting.{meet}
 use Rattle.claims.specs.Calls.{first_meeting, left_out}
-use Rattle.register.specs.Rows.{entries_of}
+use Rattle.register.specs.Rows.{entry_of}
+use Rattle.register.proofs.Parting.{differ, ends, go_on, side_by_side, out_is, passes}
+use Rattle.register.proofs.Rows.{row_here, row_none}
 use Rattle.register.proofs.Searching.{found_here, found_nowhere, not_here}
-use Rattle.register.proofs.Tables.{row_here, row_none}
 use Rattle.register.proofs.table.Table.first_meeting.Goals as goal
 
--- The test of a row, from whether its name x is left out and whether it meets the new one.
-passes : (together : List ℕ → List ℕ → Bool) (except : Option (List ℕ)) (old x new : List ℕ) (out met : Bool)
-    → old ≡ x → out ≡ left_out except old → meet together old new ≡ met
-    → (not (left_out except x) && meet together x new) ≡ (not out && met)
-passes together except old x new out met e o m =
-    ap (λ z. not (left_out except z) && meet together z new) (sym e)
-    ∙ (ap (λ z. not z && meet together old new) (sym o) ∙ ap (λ z. not out && z) m)
-
-pub rows-preserved-then-is_left_out : goal.rows-preserved-then-is_left_out
-rows-preserved-then-is_left_out g c =
+pub rows-preserved-then-eq : goal.rows-preserved-then-eq
+rows-preserved-then-eq g c =
     let t = g.F.FileSystem.together c.args.files.now in
     let except = option_map (λ x. x.now) c.args.except in
-    not_here (λ e. not (left_out except e.name) && meet t e.name c.args.name.now) (entries_of c.args.self.now) _ c.rows.invariant _
-    (row_here c.args.self.now c.rows.place _ c.row-item.is c.rows-test.true)
-    (passes t except _ _ c.args.name.now true _ c.as_bytes-old.ensures c.if-is_left_out.ensures refl)
+    let x = c.args.name.now in
+    not_here (λ e. not (left_out except e.name) && meet t e.name x) _ _ c.rows.invariant _
+    (row_here c.deref-row-items.result.now c.rows.place _ c.row-item.is c.rows-test.true)
+    (passes t except _ _ x true _ c.as_slice-old.ensures.value (out_is c.args.except c.as_slice-old.result true c.if-eq.ensures) refl)
+
+pub loop-x-preserved : goal.loop-x-preserved
+loop-x-preserved g c =
+    let step = c.in-Some.ensures.steps in
+    go_on (g.F.FileSystem.together c.args.files.now) _ _ _ _ _ _ step.0 step.1 c.if-ne.ensures ∙ c.loop-x.invariant
 
 pub rows-preserved : goal.rows-preserved
 rows-preserved g c =
     let t = g.F.FileSystem.together c.args.files.now in
     let except = option_map (λ x. x.now) c.args.except in
-    not_here (λ e. not (left_out except e.name) && meet t e.name c.args.name.now) (entries_of c.args.self.now) _ c.rows.invariant _
-    (row_here c.args.self.now c.rows.place _ c.row-item.is c.rows-test.true)
-    (passes t except _ _ c.args.name.now false false c.as_bytes-old.ensures c.if-is_left_out.ensures (sym c.components.invariant ∙ c.in-Apart.ensures))
+    let x = c.args.name.now in
+    let step = c.in-Some.ensures.steps in
+    let all = side_by_side t c.as_slice-old.result.now x c.into_iter-x-iterator.ensures.into_iter_gives c.zip-x-items.ensures.first
+    c.zip-x-items.ensures.second c.of.ensures c.of-in-rows.ensures in
+    let apart = sym (c.if-lie_together.ensures ∙ (differ t _ _ _ _ _ _ step.0 step.1 c.if-ne.ensures ∙ (c.loop-x.invariant ∙ all))) in
+    not_here (λ e. not (left_out except e.name) && meet t e.name x) _ _ c.rows.invariant _
+    (row_here c.deref-row-items.result.now c.rows.place _ c.row-item.is c.rows-test.true)
+    (passes t except _ _ x false false c.as_slice-old.ensures.value (out_is c.args.except c.as_slice-old.result false c.if-eq.ensures) apart)
 
-pub returns-in-Met : goal.returns-in-Met
+pub returns-then-lie_together : goal.returns-then-lie_together
 unfolding first_meeting
-returns-in-Met g c =
+returns-then-lie_together g c =
     let t = g.F.FileSystem.together c.args.files.now in
     let except = option_map (λ x. x.now) c.args.except in
-    found_here (λ e. not (left_out except e.name) && meet t e.name c.args.name.now) (entries_of c.args.self.now) _ c.rows.invariant _
-    (row_here c.args.self.now c.rows.place _ c.row-item.is c.rows-test.true)
-    (passes t except _ _ c.args.name.now false true c.as_bytes-old.ensures c.if-is_left_out.ensures (sym c.components.invariant ∙ c.in-Met.ensures))
+    let x = c.args.name.now in
+    let whole = ap (map entry_of) c.deref-row-items.ensures.0 ∙ c.self.view_is in
+    let step = c.in-Some.ensures.steps in
+    let all = side_by_side t c.as_slice-old.result.now x c.into_iter-x-iterator.ensures.into_iter_gives c.zip-x-items.ensures.first
+    c.zip-x-items.ensures.second c.of.ensures c.of-in-rows.ensures in
+    let met = sym (c.if-lie_together.ensures ∙ (differ t _ _ _ _ _ _ step.0 step.1 c.if-ne.ensures ∙ (c.loop-x.invariant ∙ all))) in
+    found_here (λ e. not (left_out except e.name) && meet t e.name x) _ _ c.rows.invariant _
+    (row_here c.deref-row-items.result.now c.rows.place _ c.row-item.is c.rows-test.true)
+    (passes t except _ _ x false true c.as_slice-old.ensures.value (out_is c.args.except c.as_slice-old.result false c.if-eq.ensures) met)
+    ∙ ap (first_meeting t except x) whole
+
+pub returns-in-None : goal.returns-in-None
+unfolding first_meeting
+returns-in-None g c =
+    let t = g.F.FileSystem.together c.args.files.now in
+    let except = option_map (λ x. x.now) c.args.except in
+    let x = c.args.name.now in
+    let whole = ap (map entry_of) c.deref-row-items.ensures.0 ∙ c.self.view_is in
+    let all = side_by_side t c.as_slice-old.result.now x c.into_iter-x-iterator.ensures.into_iter_gives c.zip-x-items.ensures.first
+    c.zip-x-items.ensures.second c.of.ensures c.of-in-rows.ensures in
+    let met = sym (c.loop-x.invariant ∙ all) ∙ ends t _ _ (⊎_elim (λ u. inl u.1.0) (λ u. inr u.1.0) c.in-None.ensures.steps) in
+    found_here (λ e. not (left_out except e.name) && meet t e.name x) _ _ c.rows.invariant _
+    (row_here c.deref-row-items.result.now c.rows.place _ c.row-item.is c.rows-test.true)
+    (passes t except _ _ x false true c.as_slice-old.ensures.value (out_is c.args.except c.as_slice-old.result false c.if-eq.ensures) met)
+    ∙ ap (first_meeting t except x) whole
 
 pub returns-after-rows : goal.returns-after-rows
 unfolding first_meeting
 returns-after-rows g c =
-    found_nowhere _ (entries_of c.args.self.now) _ c.rows.invariant (row_none c.args.self.now c.rows.place c.rows-test.false)
+    let whole = ap (map entry_of) c.deref-row-items.ensures.0 ∙ c.self.view_is in
+    found_nowhere _ _ _ c.rows.invariant (row_none c.deref-row-items.result.now c.rows.place (omega (arith, c.rows-test.false))) ∙ ap (first_meeting (g.F.FileSystem.together c.args.files.now) (option_map (λ x. x.now) c.args.except) c.args.name.now) whole

@@ -1,20 +1,20 @@
--- No row so far meets the name, and what is left of the two names decides of this one.
-use Rattle.std.proofs.Common.{◌≡◌, not, ◌&&◌, length}
+-- No row so far meets the name, and the components of the two names that are left decide of this one.
+use Rattle.std.proofs.Common.{◌≡◌, not, ◌&&◌, map}
 use Rattle.std.specs.Option.{option_map}
-use Rattle.meetings.specs.Meeting.{meet}
+use Rattle.std.specs.Iterator.Adapters.{zip_first, zip_second}
+use Rattle.tag.specs.Parts.{parts_left}
+use Rattle.meetings.specs.Meeting.{meet, meet_parts}
 use Rattle.claims.specs.Calls.{left_out}
-use Rattle.register.specs.Rows.{entries_of}
+use Rattle.register.specs.Rows.{entry_of}
 use Rattle.register.proofs.Searching.{From}
 use Rattle.register.proofs.table.Table.first_meeting.Given as goal
 
 abbrev pub invariant-rows : goal.invariant-rows
 invariant-rows g l =
     From (λ e. not (left_out (option_map (λ x. x.now) l.except) e.name) && meet (g.F.FileSystem.together l.files) e.name l.name)
-    (entries_of l.self) l.place
+    (map entry_of l.row-items) l.place
 
-abbrev pub invariant-components : goal.invariant-components
-invariant-components g l =
-    meet (g.F.FileSystem.together l.files) l.old l.new ≡ meet (g.F.FileSystem.together l.files) l.initial.old l.name
-
-abbrev pub decreases-components : goal.decreases-components
-decreases-components g l = length l.old
+abbrev pub invariant-loop-x : goal.invariant-loop-x
+invariant-loop-x g l =
+    meet_parts (g.F.FileSystem.together l.files) (parts_left (zip_first l.x-iterator)) (parts_left (zip_second l.x-iterator))
+    ≡ meet_parts (g.F.FileSystem.together l.files) (parts_left (zip_first l.initial.x-iterator)) (parts_left (zip_second l.initial.x-iterator))

@@ -1,7 +1,5 @@
-use Rattle.std.proofs.Common.{refl}
-use Rattle.register.specs.Rows.{entries_of}
+use Rattle.std.proofs.Common.{arith}
 use Rattle.register.proofs.table.Table.new.Goals as goal
 
-pub returns : goal.returns
-unfolding entries_of
-returns c = refl
+pub invariant_of-result : goal.invariant_of-result
+invariant_of-result c = rw c.new.ensures (λ k d low high. absurd (omega arith))

@@ -1,31 +1,35 @@
--- The row is written over, taken out, and put in at the place of its new name.
-use Rattle.std.proofs.Common.{◌<◌, length, ap, ◌∙◌, arith}
-use Rattle.claims.specs.Entries.{slot}
-use Rattle.register.specs.Rows.{entries_of, renamed, without}
-use Rattle.register.proofs.Tables.{count_length, length_without, put_by, row_written, set_without, slot_within}
+-- The row is lent and written over, taken out, and put in at the place of its new name.
+use Rattle.std.proofs.Common.{get_or, map, sym, ap, ◌∙◌, subst}
+use Rattle.claims.specs.Entries.{put, slot}
+use Rattle.std.specs.List.{remove}
+use Rattle.register.specs.Entries.{InOrder}
+use Rattle.register.specs.declared.table.Row.{Row}
+use Rattle.register.specs.Rows.{entry_of}
+use Rattle.register.proofs.Ordering.{remove_rises}
+use Rattle.register.proofs.Renaming.{number_lent, others_left, taken_new}
 use Rattle.register.proofs.table.Table.rename.Goals as goal
 
-pub insert-requires : goal.insert-requires
-insert-requires c =
-    let n = count_length c.args.self.now in
-    let inside : c.args.from < length (entries_of c.args.self.now) = omega (arith, c.requires.0) in
-    let out = c.remove.ensures ∙ (ap (without c.args.from) c.relabel.ensures.entries ∙ set_without _ _ _ inside) in
-    let less = length_without _ _ inside in
-    let m = count_length c.remove.new.self in
-    let k = c.args.self.now.counted in (
-      omega (arith, slot_within c.args.name.now (entries_of c.remove.new.self), c.slot-to.ensures),
-      omega (arith, ap length out),
-    )
+pub invariant_of-self : goal.invariant_of-self
+invariant_of-self c =
+    let left = others_left c.self.inside.rows.items _ _ _ c.requires c.self.view_is c.deref_mut.ensures.value _ _ c.remove-row.ensures.items in
+    subst InOrder (sym left) (remove_rises _ (subst InOrder c.self.view_is c.self.invariant) _ c.requires)
 
-pub returns : goal.returns
-returns c =
-    let n = count_length c.args.self.now in
-    let x = c.args.name.now in
-    let inside : c.args.from < length (entries_of c.args.self.now) = omega (arith, c.requires.0) in
-    let below : c.args.from < c.relabel.new.self.count = omega (arith, c.requires.0, c.relabel.ensures.count) in
-    let out = c.remove.ensures ∙ (ap (without c.args.from) c.relabel.ensures.entries ∙ set_without _ _ _ inside) in
-    let row = row_written c.relabel.new.self c.args.from _ _ _ below c.relabel.ensures.entries inside in
-    record {
-      place = c.slot-to.ensures ∙ ap (slot x) out;
-      entries = c.insert.ensures ∙ put_by _ _ _ (renamed (entries_of c.args.self.now) c.args.from x c.args.mode) _ out row c.slot-to.ensures;
-    }
+pub returns-clause-place : goal.returns-clause-place
+returns-clause-place c =
+    let rows = c.self.inside.rows.items in
+    let left = others_left rows _ _ _ c.requires c.self.view_is c.deref_mut.ensures.value _ _ c.remove-row.ensures.items in
+    let taken = taken_new rows _ _ _ c.requires c.self.view_is c.deref_mut.ensures.value _ _ c.remove-row.ensures.value in
+    c.put.ensures.place ∙ (ap (λ r. slot r.name.items (map entry_of c.remove-row.new.self.items)) taken ∙ ap (slot c.args.name.items) left)
+
+pub returns-clause-entries : goal.returns-clause-entries
+returns-clause-entries c =
+    let rows = c.self.inside.rows.items in
+    let old = c.index-deref_mut-from.result in
+    let left = others_left rows _ _ _ c.requires c.self.view_is c.deref_mut.ensures.value _ _ c.remove-row.ensures.items in
+    let taken = taken_new rows _ _ _ c.requires c.self.view_is c.deref_mut.ensures.value _ _ c.remove-row.ensures.value in
+    let number = number_lent rows c.deref_mut.result.now c.args.self.now c.args.from c.requires c.self.view_is c.deref_mut.ensures.value old old in
+    let new : Row = record { name = c.args.name; number = (get_or c.deref_mut.result.now c.args.from old).number; mode = c.args.mode } in
+    c.put.ensures.entries
+    ∙ (ap (λ r. put (entry_of r) (map entry_of c.remove-row.new.self.items)) taken
+    ∙ (ap (put (entry_of new)) left
+    ∙ ap (λ n. put (record { name = c.args.name.items; number = n; mode = c.args.mode }) (remove c.args.self.now c.args.from)) number))

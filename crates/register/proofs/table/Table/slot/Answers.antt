@@ -1,31 +1,17 @@
--- A name that does not come before this one ends the search.
-use Rattle.std.proofs.Common.{sym, ap, ◌∙◌, arith}
-use Rattle.std.proofs.lemmas.Bool.{cond-false, cond-true}
+-- The names before the place that the search gives come before this one, and the others do not.
+use Rattle.std.proofs.Common.{map, sym, ap, ◌∙◌, rules}
+use Rattle.std.proofs.lemmas.List.Sorted.{IsPartitionPoint-from_clause}
 use Rattle.claims.specs.Entries.{before, slot}
-use Rattle.register.proofs.Tables.{row_here, row_none, rows_count}
+use Rattle.register.specs.Rows.{entry_of}
+use Rattle.register.proofs.Ordering.{is_lt-slice_partial_cmp}
+use Rattle.register.proofs.Rows.{rows_split, slot_of_rows}
 use Rattle.register.proofs.table.Table.slot.Goals as goal
 
-pub returns-then-not-comes_before : goal.returns-then-not-comes_before
-unfolding slot
-returns-then-not-comes_before c =
-    let x = c.args.name.now in
-    let i = c.loop-place.place in
-    let e = row_here c.args.self.now i _ c.row-item.is c.loop-place-test.true in
-    let none = ap (slot x) e ∙ cond-false _ _ _ (sym (c.if-not-comes_before.ensures ∙ ap (λ n. before n x) c.as_bytes.ensures)) in
-    omega (arith, none, c.loop-place.invariant)
-
-pub loop-place-preserved : goal.loop-place-preserved
-unfolding slot
-loop-place-preserved c =
-    let x = c.args.name.now in
-    let i = c.loop-place.place in
-    let e = row_here c.args.self.now i _ c.row-item.is c.loop-place-test.true in
-    let more = ap (slot x) e ∙ cond-true _ _ _ (sym (c.if-not-comes_before.ensures ∙ ap (λ n. before n x) c.as_bytes.ensures)) in
-    omega (arith, more, c.loop-place.invariant)
-
 pub returns : goal.returns
-unfolding slot
 returns c =
-    let i = c.loop-place.place in
-    let none = ap (slot c.args.name.now) (row_none c.args.self.now i c.loop-place-test.false) in
-    omega (arith, none, c.loop-place.invariant, rows_count c.args.self.now i, c.loop-place.auto.place-end, c.loop-place-test.false)
+    let x = c.args.name.now in
+    let rows = c.deref.result.now in
+    let point = IsPartitionPoint-from_clause (λ r. before r.name.items x) rows _ c.partition_point.ensures.partitioned
+    (rows_split rows x (rw c.deref.ensures.0 c.self.invariant))
+    (λ a r f' called. search (rules, is_lt-slice_partial_cmp)) in
+    sym (slot_of_rows x rows _ c.partition_point.ensures.bound point.0 point.1) ∙ (ap (λ t. slot x (map entry_of t)) c.deref.ensures.0 ∙ ap (slot x) c.self.view_is)

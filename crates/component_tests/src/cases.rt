@@ -1,0 +1,29 @@
+//! Cases of a check: a byte string, and the number by which it is refused, if it is.
+use protections::Mode;
+
+pub const LINK: Option<Mode> = Some(Mode::Symlink);
+
+#[derive(Clone, Copy)]
+pub struct Case {
+    pub input: &'static [u8],
+    pub mode: Option<Mode>,
+    pub number: Option<u8>,
+}
+
+impl Case {
+    pub fn allowed(input: &'static [u8], mode: Option<Mode>) -> Case {
+        Case {
+            input,
+            mode,
+            number: None,
+        }
+    }
+
+    pub fn refused(input: &'static [u8], mode: Option<Mode>, number: u8) -> Case {
+        Case {
+            input,
+            mode,
+            number: Some(number),
+        }
+    }
+}

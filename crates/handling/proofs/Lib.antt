@@ -1,2 +1,0 @@
--- The lemmas on the list of handles.
-pub mod Reporting

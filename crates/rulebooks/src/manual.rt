@@ -1,0 +1,26 @@
+//! Rulebooks whose names are those that the manual's rules allow, and the question that answers by those rules.
+ghost use Rattle.std.specs.Prelude.{◌≡◌, ◌↔◌, ℕ, List, [], IsOk, IfErr, OnOk, ◌≢◌};
+ghost use Rattle.tag.specs.Components.{Among, components};
+ghost use Rattle.rulebooks.specs.Refusals.{fault_ruling};
+ghost use Rattle.rulebooks.specs.Rulings.Ruling.{allowed};
+
+use super::{Rulebook, RulebookFault, ask};
+
+/// A rulebook that allows the names that keep the rules of the manual, and no others.
+pub trait ManualRulebook: Rulebook {
+    // What the manual asks of a name.
+    ghost rules: { List ℕ → Type 0 };
+
+    // A name is allowed exactly where it keeps the rules.
+    ghost ruled: { (s : List ℕ) → (Self.Rulebook.meaning s ≡ allowed) ↔ rules s };
+}
+
+/// Asks a rulebook of the manual whether `name` is allowed: it is exactly where it keeps the manual's rules.
+pub fn ask_by_manual<R: ManualRulebook>(rules: &R, name: &[u8]) -> Result<(), RulebookFault>
+    ensures answer { fault_ruling result ≡ R.Rulebook.meaning name.now }
+    ensures kind { IfErr result (λ f. f.kind ≡ R.Rulebook.KIND) }
+    ensures filled { OnOk result ((c : List ℕ) → Among c (components name.now) → c ≢ []) }
+    ensures manual { IsOk result ↔ R.ManualRulebook.rules name.now }
+{
+    ask(rules, name)
+}

@@ -1,0 +1,44 @@
+//! The components of a name: its parts between slashes, from the left.
+ghost use Rattle.std.specs.Prelude.{◌≡◌};
+ghost use Rattle.std.specs.Iterator.{YieldsFirstRef, item_count};
+ghost use Rattle.tag.specs.Components.{components};
+ghost use Rattle.tag.specs.Parts.{parts_left};
+
+use crate::splits::split_once;
+
+/// The components of a name that are still to come. A name with no byte has one component, which is empty.
+#[derive(Clone, Copy, Debug)]
+pub struct Components<'a> {
+    rest: Option<&'a [u8]>,
+}
+
+impl<'a> Components<'a> {
+    /// The components of `name`.
+    pub fn of(name: &'a [u8]) -> Components<'a>
+        ensures { parts_left result ≡ components name.now }
+    {
+        Components { rest: Some(name) }
+    }
+}
+
+impl<'a> Iterator for Components<'a> {
+    type Item = &'a [u8];
+
+    ghost next_gives = { YieldsFirstRef parts_left };
+
+    ghost remaining = { item_count parts_left };
+
+    fn next(&mut self) -> Option<&'a [u8]> {
+        let rest = self.rest?;
+        match split_once(rest, b'/') {
+            Some((component, others)) => {
+                self.rest = Some(others);
+                Some(component)
+            }
+            None => {
+                self.rest = None;
+                Some(rest)
+            }
+        }
+    }
+}
