@@ -29,6 +29,7 @@ fn empty_register() -> Campus
 }
 
 /// 0 for an accepted call, and else the number of the refusal.
+// C reads the answers, so they are bytes.
 fn answer_byte(answer: Result<usize, Fault>) -> u8
     ensures { result ≡ byte_of (outcome_of answer) }
 {

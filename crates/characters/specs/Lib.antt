@@ -2,3 +2,4 @@
 pub mod Table
 pub mod Standard
 pub mod Reader
+pub mod Left

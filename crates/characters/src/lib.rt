@@ -1,4 +1,4 @@
-//! The next character of a byte string, by the Unicode Standard.
+//! The characters of a byte string, by the Unicode Standard: the next one, and all of them in turn.
 #![tactic(auto)]
 
 ghost use Rattle.std.specs.Prelude.{◌≡◌, ◌≤◌, ◌++◌, length};
@@ -7,6 +7,10 @@ ghost use Rattle.std.specs.List.{common_prefix_len};
 ghost use Rattle.characters.specs.Table.{following_of, table, within};
 ghost use Rattle.characters.specs.Standard.{code_point_of, point, size, Standard, Only};
 ghost use Rattle.characters.specs.Reader.{first_part, parts, Takes, Whole};
+
+pub use sequence::Characters;
+
+mod sequence;
 
 /// What the front of a byte string gives.
 #[derive(Clone, Copy, PartialEq, Eq, Debug)]
@@ -74,6 +78,7 @@ const AFTER_F4: Range = Range {
 };
 
 impl Range {
+    // Whether the byte is one of the range.
     fn contains(&self, byte: u8) -> bool
         ensures { result ≡ within byte self.now }
     {
@@ -111,7 +116,7 @@ fn matching(bytes: &[u8], ranges: &[Range]) -> usize
         .count()
 }
 
-// The number that the bits of a sequence spell.
+// The number that the bits of a sequence spell. The bytes are known to fit their ranges, which `from_utf8` would look at again.
 fn joined(sequence: &[u8]) -> u32
     ensures { result ≡ code_point_of sequence.now }
 {

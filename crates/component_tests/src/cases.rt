@@ -3,6 +3,7 @@ use protections::Mode;
 
 pub const LINK: Option<Mode> = Some(Mode::Symlink);
 
+// A component and its mode, and the number by which it is refused, or none where it is allowed.
 #[derive(Clone, Copy)]
 pub struct Case {
     pub input: &'static [u8],

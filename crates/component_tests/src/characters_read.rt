@@ -1,15 +1,5 @@
 //! Characters: examples of the Unicode Standard, chapter 3, Table 3-4 and Tables 3-8 to 3-11.
-use characters::{Part, take_part};
-
-const A: Part = Part::Character {
-    code_point: 0x41,
-    length: 1,
-};
-
-const B: Part = Part::Character {
-    code_point: 0x42,
-    length: 1,
-};
+use characters::{Characters, Part};
 
 const R1: Part = Part::Replaced { length: 1 };
 
@@ -23,11 +13,7 @@ fn character(code_point: u32, length: usize) -> Part {
 
 // Whether the bytes have just these parts.
 fn reads(bytes: &[u8], expected: &[Part]) -> bool {
-    let mut rest = bytes;
-    expected
-        .iter()
-        .all(|part| take_part(&mut rest) == Some(*part))
-        && take_part(&mut rest).is_none()
+    Characters::of(bytes).eq(expected.iter().copied())
 }
 
 #[test]
@@ -51,25 +37,35 @@ fn ill_formed(rt: HostRuntime) {
     assert!(rt;
         reads(
             b"\xC0\xAF\xE0\x80\xBF\xF0\x81\x82\x41",
-            &[R1, R1, R1, R1, R1, R1, R1, R1, A],
+            &[R1, R1, R1, R1, R1, R1, R1, R1, character(0x41, 1)],
         )
     );
     assert!(rt;
         reads(
             b"\xED\xA0\x80\xED\xBF\xBF\xED\xAF\x41",
-            &[R1, R1, R1, R1, R1, R1, R1, R1, A],
+            &[R1, R1, R1, R1, R1, R1, R1, R1, character(0x41, 1)],
         )
     );
     assert!(rt;
         reads(
             b"\xF4\x91\x92\x93\xFF\x41\x80\xBF\x42",
-            &[R1, R1, R1, R1, R1, A, R1, R1, B],
+            &[
+                R1,
+                R1,
+                R1,
+                R1,
+                R1,
+                character(0x41, 1),
+                R1,
+                R1,
+                character(0x42, 1)
+            ],
         )
     );
     assert!(rt;
         reads(
             b"\xE1\x80\xE2\xF0\x91\x92\xF1\xBF\x41",
-            &[R2, R1, R3, R2, A],
+            &[R2, R1, R3, R2, character(0x41, 1)],
         )
     );
 }

@@ -1,6 +1,6 @@
 //! Components at the edges of the rules, under settings of the protections.
 use crate::cases::{Case, LINK};
-use path::{Options, component, component_is_windows_device};
+use path::{Error, Options, component, component_is_windows_device};
 use std::test::Fail;
 
 const NONE: Options = Options {
@@ -11,26 +11,17 @@ const NONE: Options = Options {
 
 const WINDOWS: Options = Options {
     protect_windows: true,
-    protect_hfs: false,
-    protect_ntfs: false,
+    ..NONE
 };
 
 const NTFS: Options = Options {
-    protect_windows: false,
-    protect_hfs: false,
     protect_ntfs: true,
+    ..NONE
 };
 
 const BOTH: Options = Options {
     protect_windows: true,
-    protect_hfs: false,
-    protect_ntfs: true,
-};
-
-const ALL: Options = Options {
-    protect_windows: true,
-    protect_hfs: true,
-    protect_ntfs: true,
+    ..NTFS
 };
 
 // Whether the components of the cases are kept or refused as they say.
@@ -42,7 +33,7 @@ fn checks(options: Options, cases: &[Case]) -> bool {
 }
 
 #[test]
-fn one_protection_or_none(rt: HostRuntime) {
+fn refusals(rt: HostRuntime) {
     let none = [
         Case::refused(b"", None, 21),
         Case::refused(b"..", None, 28),
@@ -64,7 +55,7 @@ fn one_protection_or_none(rt: HostRuntime) {
 }
 
 #[test]
-fn several_protections(rt: HostRuntime) {
+fn refusals_by_several_protections(rt: HostRuntime) {
     let both = [
         Case::refused(b"LPT0", None, 24),
         Case::allowed(b"COM0", None),
@@ -74,7 +65,7 @@ fn several_protections(rt: HostRuntime) {
         Case::allowed(b".gitmodules", None),
     ];
     assert!(rt; checks(BOTH, &both));
-    assert!(rt; checks(ALL, &all));
+    assert!(rt; checks(Options::default(), &all));
 }
 
 #[test]
@@ -85,15 +76,12 @@ fn devices(rt: HostRuntime) {
 
 #[test]
 fn words_of_an_error(rt: HostRuntime) -> Result<(), Fail> {
-    match component(b"LPT0", None, Options::default()) {
-        Ok(_) => Err(Fail::new("a device was kept")),
-        Err(error) => {
-            let words = format!(in rt.alloc(); "{error}")?;
-            assert_eq!(rt;
-                words.as_str(),
-                "the name is reserved for a device on Windows"
-            );
-            Ok(())
-        }
-    }
+    let error = Error::WindowsReservedName;
+    assert_eq!(rt; component(b"LPT0", None, Options::default()), Err(error));
+    let words = format!(in rt.alloc(); "{error}")?;
+    assert_eq!(rt;
+        words.as_str(),
+        "the name is reserved for a device on Windows"
+    );
+    Ok(())
 }

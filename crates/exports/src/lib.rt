@@ -18,7 +18,7 @@ use path::{Mode, Options};
 /// an allowed name. The name that 13 carries is the whole input.
 // C reads the two answers, so they are numbers.
 #[repr(C)]
-#[derive(Clone, Copy)]
+#[derive(Clone, Copy, Debug, PartialEq, Eq)]
 pub struct NameAnswer {
     pub number: u32,
     pub value: u32,
@@ -26,13 +26,14 @@ pub struct NameAnswer {
 
 /// The answer of the mender: 0 and the length of the text at the front of the buffer, or the number of the refusal and 0.
 #[repr(C)]
-#[derive(Clone, Copy)]
+#[derive(Clone, Copy, Debug, PartialEq, Eq)]
 pub struct MendAnswer {
     pub number: u32,
     pub length: usize,
 }
 
 /// The numbers of what a check of names answers.
+// A refusal of a rulebook splits an error likewise, but holds the value as a place: only the byte of 1 is the same.
 impl From<Result<&[u8], reference::Error<'_>>> for NameAnswer {
     ghost from_gives = { λ res r. (r.number ≡ number_of (answer_of res)) × (r.value ≡ value_of (answer_of res)) };
 
@@ -69,6 +70,8 @@ impl From<Result<usize, mending::Error>> for MendAnswer {
     }
 }
 
+// The exported names stay, so each check of names has a function. Both fields are compared with what the check means, as C
+// reads both.
 #[unsafe(no_mangle)]
 pub extern "C" fn gushteral_reference_name_partial(input: &[u8]) -> NameAnswer
     ensures number { result.number ≡ number_of (partial_name input.now) }
@@ -94,6 +97,8 @@ pub extern "C" fn gushteral_reference_branch_name(input: &[u8]) -> NameAnswer
 }
 
 /// The check of tag names, with its error as that of a reference name.
+// A `From` for each error that goes `Into` this one was tried: its clause says that there is an error that it goes into, and is
+// longer than this function.
 fn tag_name(input: &[u8]) -> Result<&[u8], reference::Error<'_>>
     ensures { answer_of result ≡ tag_name input.now }
 {
@@ -121,6 +126,7 @@ pub extern "C" fn gushteral_reference_name_partial_or_sanitize(
 }
 
 /// The mode by a number: 0 is absent, and any other is a symbolic link.
+// C passes the mode, so it is a number.
 fn mode(link: u8) -> Option<Mode>
     ensures { result ≡ mode_by link }
 {

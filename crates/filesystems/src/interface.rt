@@ -17,7 +17,7 @@ pub trait FileSystem {
     // The keys that components are compared by.
     ghost keys: { Self → List Key };
 
-    /// The verdict on a component, if it is refused.
+    /// The verdict on a component, if it is refused. An Option, and the mode is always passed: a fixed form, docs/DECISIONS.md.
     fn verdict(&self, component: &[u8], mode: Option<Mode>) -> Option<Verdict>
         ensures { numbered result ≡ judged self.now component.now mode };
 

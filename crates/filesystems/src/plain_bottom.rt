@@ -10,7 +10,7 @@ use crate::interface::FileSystem;
 use protections::{Mode, Plain, Protection, Verdict};
 
 /// A file system with the verdict and the key of the plain protection: only equal components lie together.
-#[derive(Clone, Copy)]
+#[derive(Clone, Copy, Debug, PartialEq, Eq)]
 pub struct PlainBottom;
 
 impl FileSystem for PlainBottom {

@@ -3,6 +3,7 @@
 
 use std::io::{Read, Write};
 
+// `listing_io` reads and writes too, but stops at a length and gives another report: only the last line is the same.
 fn main(rt: HostRuntime) -> anyhow::Result<()> {
     let mut input = Vec::new(rt.alloc());
     rt.stdin().read_to_end(&mut input)?;

@@ -10,6 +10,7 @@ use lines::Lines;
 use std::alloc::{AllocError, Global};
 
 /// The handle that a text is mended to.
+// The mender writes to a buffer of bytes and answers a length, which a project rule fixes for the exported calls: so the length is cut to here.
 pub fn handle(heap: Global, text: &[u8]) -> Result<Vec<u8>, AllocError>
     ensures { IfOk result (λ v. v.items ≡ mended text.now) }
 {
@@ -22,6 +23,8 @@ pub fn handle(heap: Global, text: &[u8]) -> Result<Vec<u8>, AllocError>
 
 /// The report so far: its bytes, one line for each text that it was given, and how many of these texts are kept.
 // A text need not be UTF-8, so it is no String; `write!` to a Vec gives an error of IO, and here only memory may fail.
+// A model of the three fields, for one clause in place of three, was tried: `add_line` adds to `kept` after a call, and there
+// the proof needs the invariant before it, which a model does not tell.
 #[derive(Drop)]
 struct Draft {
     bytes: Vec<u8>,

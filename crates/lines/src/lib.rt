@@ -20,6 +20,7 @@ pub fn next_line(text: &[u8]) -> Option<(&[u8], &[u8])>
 }
 
 /// The lines of a text that are still to come. The last line may end with the text; a text with no byte has no line.
+// Of the shape of `tag::components::Components`: the two differ in their step and in what their contract says is left.
 #[derive(Clone, Copy, Debug)]
 pub struct Lines<'a> {
     rest: &'a [u8],

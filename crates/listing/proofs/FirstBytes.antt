@@ -1,5 +1,5 @@
 -- Which call a line is, by its first two bytes.
-use Rattle.std.proofs.Common.{◌≡◌, ℕ, ◌<◌, ◌≤◌, List, [], ◌∷◌, length, get_or, drop, None, refl, arith}
+use Rattle.std.proofs.Common.{◌≡◌, ℕ, true, false, cond, eqb, ◌<◌, ◌≤◌, List, [], ◌∷◌, length, get_or, drop, None, refl, arith}
 use Rattle.std.proofs.lemmas.Bool.{eq-eqb, ne_eqb}
 use Rattle.listing.specs.Reading.{call_by, read_line}
 
@@ -25,7 +25,12 @@ line_by (k ∷ []) l e = absurd (omega arith)
 line_by (k ∷ (b ∷ s)) l e = rw (eq-eqb b 32 e)
 
 -- Another first byte.
-pub other_line : (s : List ℕ) → 2 ≤ length s → get_or s 1 0 ≡ 32 → (get_or s 0 0 ≡ 101 → ⊥) → (get_or s 0 0 ≡ 111 → ⊥)
+pub other_line : (s : List ℕ) → 2 ≤ length s → (get_or s 0 0 ≡ 101 → ⊥) → (get_or s 0 0 ≡ 111 → ⊥)
     → (get_or s 0 0 ≡ 114 → ⊥) → (get_or s 0 0 ≡ 100 → ⊥) → None ≡ read_line s
-other_line s l e a b c d =
-    (rw (ne_eqb (get_or s 0 0) 101 a, ne_eqb (get_or s 0 0) 111 b, ne_eqb (get_or s 0 0) 114 c, ne_eqb (get_or s 0 0) 100 d) at (line_by s l e))
+unfolding read_line
+other_line [] l a b c d = refl
+other_line (k ∷ []) l a b c d = refl
+other_line (k ∷ (n ∷ s)) l a b c d = elim (eqb n 32) as (λ t. None ≡ cond t (call_by k s) None) [
+  | true ↦ rw (ne_eqb k 101 a, ne_eqb k 111 b, ne_eqb k 114 c, ne_eqb k 100 d)
+  | false ↦ refl
+]

@@ -29,6 +29,8 @@ pub const LONGEST_INPUT: usize = 16384;
 fn read_calls<'a>(heap: Global, input: &'a [u8]) -> Result<Vec<Call<'a>>, AllocError>
     ensures { IfOk result (λ v. map call_of v.items ≡ calls_in (lines_of input.now)) }
 {
+    // `filter_map(read_line).collect(heap)` was tried, and its proof did not close: the library's lemma asks for the very value of
+    // `read_line`, whose clause tells only the call that the value means.
     let mut calls = Vec::new(heap);
     for line in Lines::of(input) {
         if let Some(call) = read_line(line) {

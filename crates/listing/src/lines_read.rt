@@ -13,9 +13,10 @@ use tag::splits::split_once;
 fn read_number(digits: &[u8]) -> Option<u32>
     ensures { result ≡ number_of_digits digits.now }
 {
-    if digits.is_empty() || digits.len() > 9 {
+    if !(1..=9).contains(&digits.len()) {
         return None;
     }
+    // With `try_fold` both parts of the step would stand in a closure with the `?` of its own, which is no plainer.
     let mut number = 0;
     for digit in digits {
         number = number * 10 + char::from(*digit).to_digit(10)?;
@@ -32,6 +33,7 @@ fn number_before(text: &[u8]) -> Option<(u32, &[u8])>
 }
 
 /// The call of a line `e NUMBER NAME`, from what stands after its first space.
+// Each kind of line has a function, so that `read_line` shows a kind in a line.
 fn read_enter(rest: &[u8]) -> Option<Call<'_>>
     ensures { option_map call_of result ≡ option_map an_enter (number_before rest.now) }
 {
@@ -67,17 +69,11 @@ fn read_rename(rest: &[u8]) -> Option<Call<'_>>
 pub fn read_line(line: &[u8]) -> Option<Call<'_>>
     ensures { option_map call_of result ≡ read_line line.now }
 {
-    let [kind, space, rest @ ..] = line else {
-        return None;
-    };
-    if *space != b' ' {
-        return None;
-    }
-    match *kind {
-        b'e' => read_enter(rest),
-        b'o' => read_offer(rest),
-        b'r' => read_rename(rest),
-        b'd' => Some(Call::Change(Change::Remove { name: rest })),
+    match line {
+        [b'e', b' ', rest @ ..] => read_enter(rest),
+        [b'o', b' ', rest @ ..] => read_offer(rest),
+        [b'r', b' ', rest @ ..] => read_rename(rest),
+        [b'd', b' ', rest @ ..] => Some(Call::Change(Change::Remove { name: rest })),
         _ => None,
     }
 }

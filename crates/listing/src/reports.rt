@@ -17,65 +17,82 @@ use rulebooks::{MendingRulebook, Rulebook};
 use runs::{Answer, Call, audit};
 use std::alloc::{AllocError, Global};
 
-/// Adds a word and a count, on a line.
-fn add_count(report: &mut Vec<u8>, word: &str, count: usize) -> Result<(), AllocError>
-    ensures { OnOk result (report.new.items ≡ report.old.items ++ count_line word.now count) }
-{
-    let line = format!(in *report.allocator(); "{word} {count}\n")?;
-    report.extend_from_slice(line.as_bytes())
+/// The report so far.
+// A name need not be UTF-8, so it is no String; `write!` to a Vec gives an error of IO, and here only memory may fail.
+#[derive(Drop)]
+struct Draft {
+    bytes: Vec<u8>,
 }
 
-/// Adds the line of an answer, or where there is none, of a line that is no call.
-fn add_answer(report: &mut Vec<u8>, answer: Option<&Answer>) -> Result<(), AllocError>
-    ensures { OnOk result (report.new.items ≡ report.old.items ++ line_for (option_map outcome_at answer.entry)) }
-{
-    match answer {
-        Some(Ok(_)) => report.extend_from_slice(b"ok\n"),
-        Some(Err(fault)) => {
-            let line = format!(in *report.allocator(); "refused {}\n", fault.number())?;
-            report.extend_from_slice(line.as_bytes())
+impl Draft {
+    /// Adds words.
+    fn push_words(&mut self, words: &str) -> Result<(), AllocError>
+        ensures { OnOk result (self.new.bytes.items ≡ self.old.bytes.items ++ words.now) }
+    {
+        self.bytes.extend_from_slice(words.as_bytes())
+    }
+
+    /// Adds a word and a count, on a line.
+    fn add_count(&mut self, word: &str, count: usize) -> Result<(), AllocError>
+        ensures { OnOk result (self.new.bytes.items ≡ self.old.bytes.items ++ count_line word.now count) }
+    {
+        let line = format!(in *self.bytes.allocator(); "{word} {count}\n")?;
+        self.push_words(line.as_str())
+    }
+
+    /// Adds the line of an answer, or where there is none, of a line that is no call.
+    fn add_answer(&mut self, answer: Option<&Answer>) -> Result<(), AllocError>
+        ensures { OnOk result (self.new.bytes.items ≡ self.old.bytes.items ++ line_for (option_map outcome_at answer.entry)) }
+    {
+        match answer {
+            Some(Ok(_)) => self.push_words("ok\n"),
+            Some(Err(fault)) => {
+                let line = format!(in *self.bytes.allocator(); "refused {}\n", fault.number())?;
+                self.push_words(line.as_str())
+            }
+            None => self.push_words("unread\n"),
         }
-        None => report.extend_from_slice(b"unread\n"),
     }
-}
 
-/// Adds the lines of what came of each line of the input, from the answers of the calls among them.
-fn add_answers(report: &mut Vec<u8>, input: &[u8], answers: &[Answer]) -> Result<(), AllocError>
-    ensures { OnOk result (report.new.items ≡ report.old.items ++ answer_lines (lines input.now) (map outcome_of answers.now)) }
-{
-    let mut left = answers.iter();
-    for line in Lines::of(input) {
-        let answer = match read_line(line) {
-            Some(_) => left.next(),
-            None => None,
-        };
-        add_answer(report, answer)?;
+    /// Adds the lines of what came of each line of the input, from the answers of the calls among them.
+    fn add_answers(&mut self, input: &[u8], answers: &[Answer]) -> Result<(), AllocError>
+        ensures { OnOk result (self.new.bytes.items ≡ self.old.bytes.items ++ answer_lines (lines input.now) (map outcome_of answers.now)) }
+    {
+        let mut left = answers.iter();
+        for line in Lines::of(input) {
+            // A `match`, as `and_then(|_| left.next())` would take the next answer out of sight, within a closure.
+            let answer = match read_line(line) {
+                Some(_) => left.next(),
+                None => None,
+            };
+            self.add_answer(answer)?;
+        }
+        Ok(())
     }
-    Ok(())
-}
 
-/// Adds the line of an entry.
-fn add_entry(report: &mut Vec<u8>, entry: Entry<'_>) -> Result<(), AllocError>
-    ensures { OnOk result (report.new.items ≡ report.old.items ++ entry_line (shown entry.entry)) }
-{
-    let number = format!(in *report.allocator(); "{} ", entry.number)?;
-    report.extend_from_slice(number.as_bytes())?;
-    report.extend_from_slice(entry.name)?;
-    report.push(b'\n')?;
-    Ok(())
-}
-
-/// Adds the lines of all entries, in the order of their places.
-fn add_entries<R: Rulebook, F: FileSystem>(
-    report: &mut Vec<u8>,
-    register: &Register<R, F>,
-) -> Result<(), AllocError>
-    ensures { OnOk result (report.new.items ≡ report.old.items ++ flat_map entry_line (entries_in register.now)) }
-{
-    for entry in register.entries() {
-        add_entry(report, entry)?;
+    /// Adds the line of an entry.
+    fn add_entry(&mut self, entry: Entry<'_>) -> Result<(), AllocError>
+        ensures { OnOk result (self.new.bytes.items ≡ self.old.bytes.items ++ entry_line (shown entry.entry)) }
+    {
+        let number = format!(in *self.bytes.allocator(); "{} ", entry.number)?;
+        self.push_words(number.as_str())?;
+        self.bytes.extend_from_slice(entry.name)?;
+        self.bytes.push(b'\n')?;
+        Ok(())
     }
-    Ok(())
+
+    /// Adds the lines of all entries, in the order of their places.
+    fn add_entries<R: Rulebook, F: FileSystem>(
+        &mut self,
+        register: &Register<R, F>,
+    ) -> Result<(), AllocError>
+        ensures { OnOk result (self.new.bytes.items ≡ self.old.bytes.items ++ flat_map entry_line (entries_in register.now)) }
+    {
+        for entry in register.entries() {
+            self.add_entry(entry)?;
+        }
+        Ok(())
+    }
 }
 
 /// How many lines an input has.
@@ -94,10 +111,12 @@ pub fn write_report<R: MendingRulebook, F: FileSystem>(
 ) -> Result<Vec<u8>, AllocError>
     ensures { IfOk result (λ v. v.items ≡ report_for (lines input.now) (map outcome_of answers.now) (entries_in register.now)) }
 {
-    let mut report = Vec::new(heap);
-    add_count(&mut report, "answers", count_lines(input))?;
-    add_answers(&mut report, input, answers)?;
-    add_count(&mut report, "names", audit::<R, F, Call<'_>>(register))?;
-    add_entries(&mut report, register)?;
-    Ok(report)
+    let mut report = Draft {
+        bytes: Vec::new(heap),
+    };
+    report.add_count("answers", count_lines(input))?;
+    report.add_answers(input, answers)?;
+    report.add_count("names", audit::<R, F, Call<'_>>(register))?;
+    report.add_entries(register)?;
+    Ok(report.bytes)
 }

@@ -13,10 +13,8 @@ pub fn meets<F: FileSystem>(files: &F, left: &[u8], right: &[u8]) -> bool
     ensures test { result ≡ meet (F.FileSystem.together files.now) left.now right.now }
     ensures words { Decides result (Meets (F.FileSystem.together files.now) left.now right.now) }
 {
-    for (x, y) in Components::of(left).zip(Components::of(right)) {
-        if x != y {
-            return files.lie_together(x, y);
-        }
-    }
-    true
+    Components::of(left)
+        .zip(Components::of(right))
+        .find(|(x, y)| x != y)
+        .is_none_or(|(x, y)| files.lie_together(x, y))
 }

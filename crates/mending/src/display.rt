@@ -5,10 +5,11 @@ use std::fmt;
 impl fmt::Display for Error {
     fn fmt<W: fmt::Write>(&self, f: &mut fmt::Formatter<W>) -> fmt::Result {
         match self {
-            Error::BufferTooShort => write!(
-                f,
-                "the buffer must have as many bytes as the text, and at least one"
+            Error::BufferTooShort => f.write_str(
+                "the buffer must have as many bytes as the text, and at least one",
             ),
         }
     }
 }
+
+impl std::error::Error for Error {}

@@ -8,7 +8,7 @@ ghost use Rattle.mending.specs.Errors.{number as number_of, outcome_of};
 ghost use Rattle.mending.specs.Mender.{buffer_after, healed, mended, outcome, room};
 
 use tag::components::Components;
-use tag::scanner::{Scanner, ordinary};
+use tag::scanner::Scanner;
 use text::Text;
 
 pub mod display;
@@ -18,7 +18,7 @@ mod text;
 #[derive(Clone, Copy, Debug, PartialEq, Eq)]
 pub enum Error {
     /// The buffer is shorter than the input, or has no byte.
-    BufferTooShort,
+    BufferTooShort = 31,
 }
 
 impl Error {
@@ -26,22 +26,16 @@ impl Error {
     pub fn number(&self) -> u8
         ensures { result ≡ number_of self.now }
     {
-        match self {
-            Error::BufferTooShort => 31,
-        }
+        *self as u8
     }
 }
 
-/// What stands for the next byte of a component, if anything: a byte with no fault stays, an ordinary one without a step, a
-/// dot after a dot vanishes, and a byte with any other fault becomes a dash.
+/// What stands for the next byte of a component, if anything: a byte with no fault stays, a dot after a dot vanishes, and
+/// a byte with any other fault becomes a dash.
 fn mended_byte(scanner: &mut Scanner, byte: u8) -> Option<u8>
     ensures moves { scanner.new ≡ after byte }
     ensures mends { (a : ℕ) → scanner.old ≡ after a → (byte ≢ 47) → option_to_list result ≡ healed a byte }
 {
-    if ordinary(byte) {
-        *scanner = Scanner::AfterOther;
-        return Some(byte);
-    }
     match scanner.step(byte) {
         Ok(()) => Some(byte),
         Err(tag::Error::RepeatedDot) => None,

@@ -16,7 +16,7 @@ fn wants_dash(text: &[u8]) -> bool
 }
 
 /// Writes the bytes of a component, each healed, to the front of the buffer, and answers how many these are.
-// It writes through the slice, since `push` for each byte was measured to take half as long again.
+// It writes through the slice, since `push` for each byte was measured to take nearly twice as long.
 fn write_healed(component: &[u8], out: &mut [u8]) -> usize
     requires slash_free { Among 47 component.now → ⊥ }
     requires room { length component.now ≤ length out.old }
@@ -35,12 +35,15 @@ fn write_healed(component: &[u8], out: &mut [u8]) -> usize
 }
 
 /// The text made so far: the first `end` bytes of the buffer.
+// The buffer is the caller's, and there is no heap, so the text's length stands beside it.
 pub struct Text<'a> {
     buffer: &'a mut [u8],
     end: usize,
     ghost fits: { end ≤ length buffer.now },
 }
 
+// Each method that changes the text says that it stands in the same buffer, since a caller knows of a changed text only what
+// is said. Those that take a component pass it on, so each asks that it has no slash.
 impl<'a> Text<'a> {
     ghost use Rattle.mending.specs.Texts.{text_of, SameBuffer};
 
@@ -89,6 +92,7 @@ impl<'a> Text<'a> {
         ensures bound { self.new.end ≤ self.old.end }
         ensures cuts { text_of self.new ≡ take start (text_of self.old) ++ cut (drop start (text_of self.old)) }
     {
+        // Five bytes are what `ends_in_lock` finds there; `strip_suffix` would spell `.lock` a second time.
         while ends_in_lock(&self.bytes()[start..]) {
             self.end -= 5;
         }

@@ -31,6 +31,7 @@ pub enum Error {
 
 impl Error {
     /// The error in plain words.
+    // `Display` writes these, and a contract states them; the refusal of a pair has the same three items, with words of its own.
     pub fn text(&self) -> &'static str
         ensures { result.now ≡ text_of self.now }
     {
@@ -71,9 +72,8 @@ impl std::error::Error for Error {}
 impl From<Verdict> for Error {
     ghost from_gives = { λ v e. number_of e ≡ verdict_number v };
 
-    fn from(verdict: Verdict) -> Error
-        ensures { number_of result ≡ verdict_number verdict }
-    {
+    // A table, since no conversion goes from a number to a case, and each case passes to the one of its name.
+    fn from(verdict: Verdict) -> Error {
         match verdict {
             Verdict::PathSeparator => Error::PathSeparator,
             Verdict::WindowsPathPrefix => Error::WindowsPathPrefix,
@@ -114,7 +114,7 @@ impl Default for Options {
     }
 }
 
-// The verdict of a protection, if it is on. `then` and `flatten` would say the same less plainly.
+// The verdict of a protection, if it is on: an Option, as each verdict. `then` and `flatten` would say the same less plainly.
 fn asked<P: Protection>(
     on: bool,
     protection: &P,
@@ -151,11 +151,7 @@ fn relative(input: &[u8]) -> bool
 
 /// The component itself, if the protections that are on let it pass.
 #[tactic(auto, using(crate::proofs::Spared::spared), unfolding(crate::specs::Rule::component_rule))]
-pub fn component<'a>(
-    input: &'a [u8],
-    mode: Option<Mode>,
-    options: Options,
-) -> Result<&'a [u8], Error>
+pub fn component(input: &[u8], mode: Option<Mode>, options: Options) -> Result<&[u8], Error>
     ensures answer { answer_of result ≡ component_rule input.now mode options }
     ensures view { IfOk result (λ v. v ≡ input.entry) }
     ensures plain_spared { component_rule input.now mode options ≡ component_rule_sparing input.now mode options }
@@ -169,10 +165,7 @@ pub fn component<'a>(
     if input.contains(&b'/') {
         return Err(Error::PathSeparator);
     }
-    match judge(input, mode, options) {
-        Some(verdict) => Err(Error::from(verdict)),
-        None => Ok(input),
-    }
+    judge(input, mode, options).map_or(Ok(input), |verdict| Err(Error::from(verdict)))
 }
 
 /// Whether Windows takes the component for a device, as `CON` or `LPT1`.

@@ -131,12 +131,28 @@ Key s = cut_key (codes ".:") (codes " ") s
 
 -- what follows the three letters
 
-pub with_letters : (a b c x y z : ℕ) (t : List ℕ) (r : Bool) → a ≡ x → b ≡ y → c ≡ z → r ≡ listed (continued devices (x ∷ y ∷ z ∷ [])) (Key t) →
+with_letters : (a b c x y z : ℕ) (t : List ℕ) (r : Bool) → a ≡ x → b ≡ y → c ≡ z → r ≡ listed (continued devices (x ∷ y ∷ z ∷ [])) (Key t) →
     r ≡ listed (continued devices (a ∷ b ∷ c ∷ [])) (Key t)
 with_letters a b c x y z t r p q s e = e ∙ sym (rw (p, q, s))
 
-pub without_letters : (a b c : ℕ) (t : List ℕ) → (DeviceLetters a b c → ⊥) → false ≡ listed (continued devices (a ∷ b ∷ c ∷ [])) (Key t)
+without_letters : (a b c : ℕ) (t : List ℕ) → (DeviceLetters a b c → ⊥) → false ≡ listed (continued devices (a ∷ b ∷ c ∷ [])) (Key t)
 without_letters a b c t h = ap (λ ns. listed ns (Key t)) (no_letters a b c h)
+
+three_only : (ls : List ℕ) → length ls ≡ 3 → get_or ls 0 0 ∷ get_or ls 1 0 ∷ get_or ls 2 0 ∷ [] ≡ ls
+three_only [] h = let z : ⊥ = omega arith in absurd z
+three_only (a ∷ []) h = let z : ⊥ = omega arith in absurd z
+three_only (a ∷ b ∷ []) h = let z : ⊥ = omega arith in absurd z
+three_only (a ∷ b ∷ c ∷ []) h = refl
+three_only (a ∷ b ∷ c ∷ d ∷ ls) h = let z : ⊥ = omega arith in absurd z
+
+module _ (ls t : List ℕ) (l : length ls ≡ 3) where
+  pub with_list : (x y z : ℕ) (r : Bool) → get_or ls 0 0 ≡ x → get_or ls 1 0 ≡ y → get_or ls 2 0 ≡ z → r ≡ listed (continued devices (x ∷ y ∷ z ∷ [])) (Key t) →
+      r ≡ listed (continued devices ls) (Key t)
+  with_list x y z r p q s e =
+      with_letters _ _ _ x y z t r p q s e ∙ ap (λ w. listed (continued devices w) (Key t)) (three_only ls l)
+
+  pub without_list : (DeviceLetters (get_or ls 0 0) (get_or ls 1 0) (get_or ls 2 0) → ⊥) → false ≡ listed (continued devices ls) (Key t)
+  without_list h = without_letters _ _ _ t h ∙ ap (λ w. listed (continued devices w) (Key t)) (three_only ls l)
 
 pub alone : (t : List ℕ) → equals (Key t) [] ≡ listed ([] ∷ []) (Key t)
 alone t = sym (or_none (equals (Key t) []))

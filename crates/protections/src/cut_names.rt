@@ -6,7 +6,7 @@ ghost use Rattle.std.specs.Option.{option_map};
 ghost use Rattle.protections.specs.Words.{equals, among, listed};
 ghost use Rattle.protections.specs.Keys.{cut_key, cut_name, ended, without_block};
 
-use crate::plain_names::named;
+use crate::keys::named;
 use crate::small_letters::Lowered;
 
 // Where a name ends: fillers after it do not count, up to the end or to a stop.
@@ -21,78 +21,82 @@ pub(crate) trait Cut {
     fn is_filler(&self, byte: u8) -> bool
         ensures { result ≡ among fillers byte };
 
+    // The three laws hold of each set by computing, so each impl proves them in a word: a lemma would be no shorter.
     ghost apart: { (b : ℕ) → among fillers b ≡ true → among stops b ≡ false };
 
     ghost stopped: { (b : ℕ) → among stops (to_ascii_lowercase b) ≡ among stops b };
 
     ghost filled: { (b : ℕ) → among fillers (to_ascii_lowercase b) ≡ among fillers b };
-}
 
-// Whether all bytes are fillers. The loop has no early exit, so that it reads many bytes at a time.
-fn all_fillers<C: Cut>(cut: &C, bytes: &[u8]) -> bool
-    ensures { result ≡ list_all (among C.Cut.fillers) bytes.now }
-{
-    let mut all = true;
-    for byte in bytes {
-        all &= cut.is_filler(*byte);
+    // Whether all bytes are fillers. The loop has no early exit, so that it reads many bytes at a time; a `fold` with `&` would
+    // be no plainer.
+    final fn all_fillers(&self, bytes: &[u8]) -> bool
+        ensures { result ≡ list_all (among fillers) bytes.now }
+    {
+        let mut all = true;
+        for byte in bytes {
+            all &= self.is_filler(*byte);
+        }
+        all
     }
-    all
-}
 
-// What is left after the first N bytes, if these are fillers.
-fn past_block<'a, const N: usize, C: Cut>(cut: &C, bytes: &'a [u8]) -> Option<&'a [u8]>
-    ensures { option_map (λ rest. rest.now) result ≡ without_block C.Cut.fillers N bytes.now }
-{
-    match bytes.split_at_checked(N) {
-        Some((block, rest)) if all_fillers(cut, block) => Some(rest),
-        _ => None,
+    // What is left after the first N bytes, if these are fillers.
+    final fn past_block<'a, const N: usize>(&self, bytes: &'a [u8]) -> Option<&'a [u8]>
+        ensures { option_map (λ rest. rest.now) result ≡ without_block fillers N bytes.now }
+    {
+        match bytes.split_at_checked(N) {
+            Some((block, rest)) if self.all_fillers(block) => Some(rest),
+            _ => None,
+        }
     }
-}
 
-// What is left after blocks of 16 fillers and then one of four.
-fn past_blocks<'a, C: Cut>(cut: &C, bytes: &'a [u8]) -> &'a [u8]
-    ensures { equals (cut_key C.Cut.stops C.Cut.fillers result.now) [] ≡ equals (cut_key C.Cut.stops C.Cut.fillers bytes.now) [] }
-{
-    let mut rest = bytes;
-    while let Some(after) = past_block::<16, C>(cut, rest) {
-        rest = after;
+    // What is left after blocks of 16 fillers and then one of four. A block is tested whole, so that it reads many bytes
+    // at a time.
+    final fn past_blocks<'a>(&self, bytes: &'a [u8]) -> &'a [u8]
+        ensures { equals (cut_key stops fillers result.now) [] ≡ equals (cut_key stops fillers bytes.now) [] }
+    {
+        let mut rest = bytes;
+        while let Some(after) = self.past_block::<16>(rest) {
+            rest = after;
+        }
+        self.past_block::<4>(rest).unwrap_or(rest)
     }
-    past_block::<4, C>(cut, rest).unwrap_or(rest)
-}
 
-// Whether the bytes are fillers up to the end or to a stop.
-pub(crate) fn only_fillers<C: Cut>(cut: &C, bytes: &[u8]) -> bool
-    ensures { result ≡ equals (cut_key C.Cut.stops C.Cut.fillers bytes.now) [] }
-{
-    past_blocks(cut, bytes)
-        .iter()
-        .find(|byte| !cut.is_filler(**byte))
-        .is_none_or(|byte| cut.is_stop(*byte))
-}
-
-// What follows the name, if the component begins with it, its letters in any case.
-pub(crate) fn past_name<'a, C: Cut>(_cut: &C, component: &'a [u8], name: &[u8]) -> Option<&'a [u8]>
-    requires { cut_name C.Cut.stops C.Cut.fillers name.now ≡ true }
-    ensures { ended C.Cut.stops C.Cut.fillers result ≡ equals (cut_key C.Cut.stops C.Cut.fillers component.now) name.now }
-{
-    match component.split_at_checked(name.len()) {
-        Some((front, rest)) if named(&Lowered, front, name) => Some(rest),
-        _ => None,
+    // Whether the bytes are fillers up to the end or to a stop.
+    final fn only_fillers(&self, bytes: &[u8]) -> bool
+        ensures { result ≡ equals (cut_key stops fillers bytes.now) [] }
+    {
+        self.past_blocks(bytes)
+            .iter()
+            .find(|byte| !self.is_filler(**byte))
+            .is_none_or(|byte| self.is_stop(*byte))
     }
-}
 
-// Whether the component is the name, its letters in any case, and then only fillers.
-pub(crate) fn cut_named<C: Cut>(cut: &C, component: &[u8], name: &[u8]) -> bool
-    requires { cut_name C.Cut.stops C.Cut.fillers name.now ≡ true }
-    ensures { result ≡ equals (cut_key C.Cut.stops C.Cut.fillers component.now) name.now }
-{
-    past_name(cut, component, name).is_some_and(|rest| only_fillers(cut, rest))
-}
+    // What follows the name, if the component begins with it, its letters in any case.
+    final fn past_name<'a>(&self, component: &'a [u8], name: &[u8]) -> Option<&'a [u8]>
+        requires { cut_name stops fillers name.now ≡ true }
+        ensures { ended stops fillers result ≡ equals (cut_key stops fillers component.now) name.now }
+    {
+        match component.split_at_checked(name.len()) {
+            Some((front, rest)) if named(&Lowered, front, name) => Some(rest),
+            _ => None,
+        }
+    }
 
-// Whether the component is one of the names, its letters in any case, and then only fillers.
-pub(crate) fn cut_named_among<C: Cut>(cut: &C, component: &[u8], names: &[&[u8]]) -> bool
-    requires { AllByRecursion (λ n. cut_name C.Cut.stops C.Cut.fillers n ≡ true) (map (λ x. x.now) names.now) }
-    ensures { result ≡ listed (map (λ x. x.now) names.now) (cut_key C.Cut.stops C.Cut.fillers component.now) }
-{
-    names.iter().any(|name| cut_named(cut, component, name))
+    // Whether the component is the name, its letters in any case, and then only fillers.
+    final fn cut_named(&self, component: &[u8], name: &[u8]) -> bool
+        requires { cut_name stops fillers name.now ≡ true }
+        ensures { result ≡ equals (cut_key stops fillers component.now) name.now }
+    {
+        self.past_name(component, name)
+            .is_some_and(|rest| self.only_fillers(rest))
+    }
+
+    // Whether the component is one of the names, its letters in any case, and then only fillers.
+    final fn cut_named_among(&self, component: &[u8], names: &[&[u8]]) -> bool
+        requires { AllByRecursion (λ n. cut_name stops fillers n ≡ true) (map (λ x. x.now) names.now) }
+        ensures { result ≡ listed (map (λ x. x.now) names.now) (cut_key stops fillers component.now) }
+    {
+        names.iter().any(|name| self.cut_named(component, name))
+    }
 }

@@ -1,4 +1,4 @@
-//! Parts of a byte string, cut at bytes of a set.
+//! Parts of a byte string, cut at bytes of a set, and its first byte taken off.
 ghost use Rattle.std.specs.Prelude.{◌≡◌};
 ghost use Rattle.std.specs.Char.{to_ascii_lowercase};
 ghost use Rattle.protections.specs.Words.{Takes, among};
@@ -37,9 +37,7 @@ pub(crate) fn without_end<'a>(bytes: &'a [u8], set: &[u8]) -> &'a [u8]
 pub(crate) fn take_byte(rest: &mut &[u8]) -> Option<u32>
     ensures { Takes rest.old.now result rest.new.now }
 {
-    let (first, others) = rest.split_first()?;
-    *rest = others;
-    Some(u32::from(*first))
+    rest.split_off_first().map(|byte| u32::from(*byte))
 }
 
 // Takes the first byte off, made small.

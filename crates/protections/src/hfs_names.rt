@@ -1,17 +1,16 @@
 //! The protection for HFS+: characters that it passes over do not count.
-ghost use Rattle.std.specs.Prelude.{◌≡◌, ◌==◌, slice_index};
+ghost use Rattle.std.specs.Prelude.{◌≡◌};
 ghost use Rattle.protections.specs.Keys.{ignored, hfs_key};
 ghost use Rattle.protections.specs.Rules.{hfs_rule};
 ghost use Rattle.protections.specs.Bound.{hfs_bounded};
 
-use crate::keys::{Cursor, Keyed, small};
-use crate::plain_names::named;
-use crate::rules::{Mode, Protection, Verdict, guard, is_link};
+use crate::keys::{Keyed, named, small};
+use crate::rules::{Mode, Protection, Verdict, git_verdict, is_link};
 use characters::take_part;
 
 /// Refuses what HFS+ takes for `.git`, and for `.gitmodules` as a link.
 /// Its key is the characters without those that HFS+ passes over, A to Z made small.
-#[derive(Clone, Copy)]
+#[derive(Clone, Copy, PartialEq, Eq, Debug)]
 pub struct Hfs;
 
 // Whether HFS+ passes over the character.
@@ -32,6 +31,7 @@ impl Keyed for Hfs {
         component
     }
 
+    // The rest is the caller's, and `Characters` keeps its own to itself, so the loop takes the parts off by hand.
     fn advance(&self, rest: &mut &[u8]) -> Option<u32> {
         while let Some(part) = take_part(rest) {
             let number = part.code_point();
@@ -43,22 +43,12 @@ impl Keyed for Hfs {
     }
 }
 
-// Whether the key begins with a dot, as the names do that are refused.
-fn begins_with_dot(component: &[u8]) -> bool
-    ensures { result ≡ (slice_index (hfs_key component.now) 0 == 46) }
-{
-    Cursor::new(&Hfs, component).next() == Some(0x2E)
-}
-
 impl Protection for Hfs {
     ghost judged = { λ _ s mode. hfs_rule s mode };
 
     #[tactic(auto, unfolding(crate::specs::Rules::hfs_rule))]
     fn verdict(&self, component: &[u8], mode: Option<Mode>) -> Option<Verdict> {
-        if !begins_with_dot(component) {
-            return None;
-        }
         let modules = is_link(mode) && named(self, component, b".gitmodules");
-        guard(named(self, component, b".git"), modules)
+        git_verdict(named(self, component, b".git"), modules)
     }
 }

@@ -6,6 +6,9 @@ ghost use Rattle.protections.specs.Words.{Takes, equals};
 ghost use Rattle.protections.specs.Keys.{lowered};
 ghost use Rattle.std.specs.Char.{to_ascii_lowercase};
 
+use crate::plain_names::Plain;
+use std::marker::Model;
+
 /// What has a key for each component, told number by number.
 pub trait Keyed {
     ghost key: { Self → List ℕ → List ℕ };
@@ -13,6 +16,7 @@ pub trait Keyed {
     // The numbers that are still to come when so much is left.
     ghost remaining: { Self → List ℕ → List ℕ };
 
+    // Most impls give the whole component. A default body would need a law that `key` and `remaining` are one in these.
     /// The part of the component that the key is read from.
     fn start<'a>(&self, component: &'a [u8]) -> &'a [u8]
         ensures { remaining self.now result.now ≡ key self.now component.now };
@@ -24,17 +28,23 @@ pub trait Keyed {
     ghost within: { (p : Self) (s : List ℕ) → AllByRecursion (λ b. b < 256) s → AllByRecursion (λ n. n ≤ 1114111) (key p s) };
 }
 
-/// Walks a component, and yields the numbers of its key.
+/// An iterator over the numbers of a component's key.
 #[derive(Drop)]
-pub struct Cursor<'p, 'a, P> {
+pub struct Cursor<'p, 'a, P: Keyed> {
     protection: &'p P,
     rest: &'a [u8],
+}
+
+impl<'p, 'a, P: Keyed> Model for Cursor<'p, 'a, P> {
+    ghost Value = { List ℕ };
+
+    ghost view = { λ c. P.Keyed.remaining c.protection.now c.rest.now };
 }
 
 impl<'p, 'a, P: Keyed> Cursor<'p, 'a, P> {
     /// A cursor before the first number of the component's key.
     pub fn new(protection: &'p P, component: &'a [u8]) -> Cursor<'p, 'a, P>
-        ensures numbers { P.Keyed.remaining result.protection.now result.rest.now ≡ P.Keyed.key protection.now component.now }
+        ensures numbers { result ≡ P.Keyed.key protection.now component.now }
         ensures bound { AllByRecursion (λ n. n ≤ 1114111) (P.Keyed.key protection.now component.now) }
     {
         let rest = protection.start(component);
@@ -45,9 +55,9 @@ impl<'p, 'a, P: Keyed> Cursor<'p, 'a, P> {
 impl<'p, 'a, P: Keyed> Iterator for Cursor<'p, 'a, P> {
     type Item = u32;
 
-    ghost next_gives = { YieldsFirst (λ c. P.Keyed.remaining c.protection.now c.rest.now) };
+    ghost next_gives = { YieldsFirst (λ c. c) };
 
-    ghost remaining = { item_count (λ c. P.Keyed.remaining c.protection.now c.rest.now) };
+    ghost remaining = { item_count (λ c. c) };
 
     /// The next number of the key.
     fn next(&mut self) -> Option<u32> {
@@ -57,8 +67,8 @@ impl<'p, 'a, P: Keyed> Iterator for Cursor<'p, 'a, P> {
 
 /// Whether two cursors yield the same numbers.
 pub fn same<P: Keyed, Q: Keyed>(left: Cursor<'_, '_, P>, right: Cursor<'_, '_, Q>) -> bool
-    ensures value { result ≡ equals (P.Keyed.remaining left.entry.protection.now left.entry.rest.now) (Q.Keyed.remaining right.entry.protection.now right.entry.rest.now) }
-    ensures decides { Decides result (P.Keyed.remaining left.entry.protection.now left.entry.rest.now ≡ Q.Keyed.remaining right.entry.protection.now right.entry.rest.now) }
+    ensures value { result ≡ equals left.entry right.entry }
+    ensures decides { Decides result (left.entry ≡ right.entry) }
 {
     left.eq(right)
 }
@@ -71,6 +81,13 @@ pub fn same_key<P: Keyed>(protection: &P, left: &[u8], right: &[u8]) -> bool
         Cursor::new(protection, left),
         Cursor::new(protection, right),
     )
+}
+
+/// Whether the component's key is the name.
+pub fn named<P: Keyed>(keyed: &P, component: &[u8], name: &[u8]) -> bool
+    ensures { result ≡ equals (P.Keyed.key keyed.now component.now) name.now }
+{
+    same(Cursor::new(keyed, component), Cursor::new(&Plain, name))
 }
 
 // A to Z made small. The library has this for a byte and for a `char`, and a key's number is neither.

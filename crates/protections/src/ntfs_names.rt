@@ -8,16 +8,15 @@ ghost use Rattle.protections.specs.Bound.{bytes_bounded, ntfs_bounded};
 ghost use Rattle.std.proofs.Common.{arith};
 ghost use Rattle.std.proofs.lemmas.Bool.Decides.{nat_tests};
 
-use crate::cut_names::{Cut, cut_named_among, only_fillers};
+use crate::cut_names::Cut;
 use crate::cuts::{one_of, take_small, up_to, without_end};
-use crate::keys::Keyed;
-use crate::plain_names::named;
-use crate::rules::{Mode, Protection, Verdict, guard, is_link};
+use crate::keys::{Keyed, named};
+use crate::rules::{Mode, Protection, Verdict, git_verdict, is_link};
 use crate::small_letters::Lowered;
 
 /// Refuses what NTFS takes for `.git`, and for `.gitmodules` as a link, short names too.
 /// Its key is the bytes before the first `:`, without trailing spaces and dots, A to Z made small.
-#[derive(Clone, Copy)]
+#[derive(Clone, Copy, PartialEq, Eq, Debug)]
 pub struct Ntfs;
 
 const GIT: [&[u8]; 2] = [b".git", b"git~1"];
@@ -99,8 +98,9 @@ fn is_short(name: &[u8]) -> bool
 fn is_cut_short(component: &[u8]) -> bool
     ensures { result ≡ short_name (ntfs_key component.now) }
 {
-    component.split_at_checked(8).is_some_and(|(front, rest)| is_short(front)
-        && only_fillers(&Ntfs, rest))
+    component
+        .split_at_checked(8)
+        .is_some_and(|(front, rest)| is_short(front) && Ntfs.only_fillers(rest))
 }
 
 // Whether NTFS takes the component for `.gitmodules`.
@@ -108,7 +108,7 @@ fn is_cut_short(component: &[u8]) -> bool
 fn is_modules(component: &[u8]) -> bool
     ensures { result ≡ (listed ntfs_modules (ntfs_key component.now) || short_name (ntfs_key component.now)) }
 {
-    cut_named_among(&Ntfs, component, &MODULES) || is_cut_short(component)
+    Ntfs.cut_named_among(component, &MODULES) || is_cut_short(component)
 }
 
 impl Protection for Ntfs {
@@ -120,6 +120,6 @@ impl Protection for Ntfs {
         ensures short_names { Decides (short_name (ntfs_key component.now)) (ShortName (ntfs_key component.now)) }
     {
         let modules = is_link(mode) && is_modules(component);
-        guard(cut_named_among(self, component, &GIT), modules)
+        git_verdict(self.cut_named_among(component, &GIT), modules)
     }
 }

@@ -36,6 +36,8 @@ impl Verdict {
 pub trait Protection: Keyed {
     ghost judged: { Self → List ℕ → Maybe Kind → Maybe ℕ };
 
+    // An Option and no Result, here and in all that pass a verdict on, and the mode is an Option passed to each: a fixed form,
+    // docs/DECISIONS.md.
     /// The verdict on a component, if it is refused.
     fn verdict(&self, component: &[u8], mode: Option<Mode>) -> Option<Verdict>
         ensures { numbered result ≡ judged self.now component.now mode };
@@ -48,8 +50,8 @@ pub(crate) fn is_link(mode: Option<Mode>) -> bool
     mode == Some(Mode::Symlink)
 }
 
-// 26 for a name that is taken for `.git`, and 27 for a link that is taken for `.gitmodules`.
-pub(crate) fn guard(git: bool, linked_modules: bool) -> Option<Verdict>
+// The verdict on a name that is taken for `.git`, or on a link that is taken for `.gitmodules`.
+pub(crate) fn git_verdict(git: bool, linked_modules: bool) -> Option<Verdict>
     ensures { numbered result ≡ cond git (Some 26) (cond linked_modules (Some 27) None) }
 {
     if git {

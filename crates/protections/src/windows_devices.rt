@@ -9,13 +9,13 @@ ghost use Rattle.std.proofs.Common.{arith};
 ghost use Rattle.std.proofs.lemmas.Bool.Decides.{nat_tests};
 
 use crate::bytes_as_they_are::ByBytes;
-use crate::cut_names::{Cut, only_fillers, past_name};
+use crate::cut_names::Cut;
 use crate::cuts::one_of;
 use crate::keys::Keyed;
 use crate::rules::{Mode, Protection, Verdict};
 
 /// Refuses the names of devices, and characters that Windows does not allow. Its key is the bytes.
-#[derive(Clone, Copy)]
+#[derive(Clone, Copy, PartialEq, Eq, Debug)]
 pub struct WindowsDevices;
 
 impl ByBytes for WindowsDevices {}
@@ -41,18 +41,18 @@ impl Cut for WindowsDevices {
 }
 
 // What follows the name of a device that begins with `con`, of which `rest` is what follows these letters.
-fn past_console<'a>(rest: &'a [u8]) -> Option<&'a [u8]>
+fn past_console(rest: &[u8]) -> Option<&[u8]>
     ensures { ended (codes ".:") (codes " ") result ≡ listed (continued devices (codes "con")) (cut_key (codes ".:") (codes " ") rest.now) }
 {
     match rest {
-        [b'i' | b'I', ..] => past_name(&WindowsDevices, rest, b"in$"),
-        [b'o' | b'O', ..] => past_name(&WindowsDevices, rest, b"out$"),
+        [b'i' | b'I', ..] => WindowsDevices.past_name(rest, b"in$"),
+        [b'o' | b'O', ..] => WindowsDevices.past_name(rest, b"out$"),
         _ => Some(rest),
     }
 }
 
 // What follows the first byte, if it is a digit from the given one on.
-fn past_digit<'a>(rest: &'a [u8], least: u8) -> Option<&'a [u8]>
+fn past_digit(rest: &[u8], least: u8) -> Option<&[u8]>
     ensures { ended (codes ".:") (codes " ") result ≡ from_digit least rest.now }
 {
     match rest {
@@ -62,16 +62,14 @@ fn past_digit<'a>(rest: &'a [u8], least: u8) -> Option<&'a [u8]>
 }
 
 // What follows the name of a device that begins with the three letters, of which `rest` is what follows them.
-fn past_device<'a>(a: u8, b: u8, c: u8, rest: &'a [u8]) -> Option<&'a [u8]>
-    ensures { ended (codes ".:") (codes " ") result ≡ listed (continued devices (a ∷ b ∷ c ∷ [])) (cut_key (codes ".:") (codes " ") rest.now) }
+fn past_device(letters: [u8; 3], rest: &[u8]) -> Option<&[u8]>
+    ensures { ended (codes ".:") (codes " ") result ≡ listed (continued devices letters) (cut_key (codes ".:") (codes " ") rest.now) }
 {
-    match (a, b, c) {
-        (b'a', b'u', b'x') => Some(rest),
-        (b'n', b'u', b'l') => Some(rest),
-        (b'p', b'r', b'n') => Some(rest),
-        (b'c', b'o', b'n') => past_console(rest),
-        (b'c', b'o', b'm') => past_digit(rest, b'1'),
-        (b'l', b'p', b't') => past_digit(rest, b'0'),
+    match &letters {
+        b"aux" | b"nul" | b"prn" => Some(rest),
+        b"con" => past_console(rest),
+        b"com" => past_digit(rest, b'1'),
+        b"lpt" => past_digit(rest, b'0'),
         _ => None,
     }
 }
@@ -84,26 +82,26 @@ pub fn names_device(component: &[u8]) -> bool
     let [a, b, c, rest @ ..] = component else {
         return false;
     };
-    past_device(
+    let letters = [
         a.to_ascii_lowercase(),
         b.to_ascii_lowercase(),
         c.to_ascii_lowercase(),
-        rest,
-    )
-    .is_some_and(|tail| only_fillers(&WindowsDevices, tail))
+    ];
+    past_device(letters, rest).is_some_and(|tail| WindowsDevices.only_fillers(tail))
 }
 
-// Whether the byte is below 0x20 or one of the marks that Windows does not allow.
+// Whether the byte is below 0x20 or one of the marks that Windows does not allow. The `|` asks both, so that the loop
+// over a component reads many bytes at a time.
 fn is_illegal(byte: u8) -> bool
     ensures { result ≡ illegal byte }
 {
     (byte < 0x20) | one_of(byte, b":<>\"|?*")
 }
 
-// Whether a byte anywhere is not allowed. The rules of the project ask for a `for` over the bytes, and the loop has no
+// Whether a byte anywhere is not allowed. A `for` over the bytes is a fixed form, docs/DECISIONS.md, and the loop has no
 // early exit, so that it reads many bytes at a time.
 #[tactic(auto, unfolding(crate::specs::Rules::has_illegal))]
-fn holds_illegal(component: &[u8]) -> bool
+fn has_illegal_byte(component: &[u8]) -> bool
     ensures { result ≡ has_illegal component.now }
 {
     let mut found = false;
@@ -115,16 +113,17 @@ fn holds_illegal(component: &[u8]) -> bool
 
 // Whether the last byte is a dot or a space.
 #[tactic(auto, unfolding(crate::specs::Rules::ends_illegally))]
-fn ends_illegal(component: &[u8]) -> bool
+fn ends_in_dot_or_space(component: &[u8]) -> bool
     ensures { result ≡ ends_illegally component.now }
 {
     matches!(component, [.., b'.' | b' '])
 }
 
-fn breaks_rules(component: &[u8]) -> bool
+// Whether Windows does not allow a byte of the component, or its end.
+fn is_illegal_name(component: &[u8]) -> bool
     ensures { result ≡ (has_illegal component.now || ends_illegally component.now) }
 {
-    holds_illegal(component) || ends_illegal(component)
+    has_illegal_byte(component) || ends_in_dot_or_space(component)
 }
 
 impl Protection for WindowsDevices {
@@ -135,6 +134,6 @@ impl Protection for WindowsDevices {
         if names_device(component) {
             return Some(Verdict::WindowsReservedName);
         }
-        breaks_rules(component).then_some(Verdict::WindowsIllegalCharacter)
+        is_illegal_name(component).then_some(Verdict::WindowsIllegalCharacter)
     }
 }

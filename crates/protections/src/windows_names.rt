@@ -4,13 +4,12 @@ ghost use Rattle.characters.specs.Reader.{code_points};
 ghost use Rattle.protections.specs.Rules.{windows_rule};
 
 use crate::bytes_as_they_are::ByBytes;
-use crate::cuts::one_of;
 use crate::keys::Keyed;
 use crate::rules::{Mode, Protection, Verdict};
-use characters::take_part;
+use characters::Characters;
 
 /// Refuses what Windows reads as a separator or as the prefix of a drive. Its key is the bytes.
-#[derive(Clone, Copy)]
+#[derive(Clone, Copy, PartialEq, Eq, Debug)]
 pub struct WindowsNames;
 
 impl ByBytes for WindowsNames {}
@@ -19,9 +18,9 @@ impl ByBytes for WindowsNames {}
 fn has_prefix(component: &[u8]) -> bool
     ensures { result ≡ (slice_index (code_points component.now) 1 == 58) }
 {
-    let mut rest = component;
-    let _first = take_part(&mut rest);
-    take_part(&mut rest).is_some_and(|second| second.code_point() == 0x3A)
+    Characters::of(component)
+        .nth(1)
+        .is_some_and(|second| second.code_point() == 0x3A)
 }
 
 impl Protection for WindowsNames {
@@ -29,7 +28,7 @@ impl Protection for WindowsNames {
 
     #[tactic(auto, unfolding(crate::specs::Rules::windows_rule))]
     fn verdict(&self, component: &[u8], _mode: Option<Mode>) -> Option<Verdict> {
-        if one_of(b'\\', component) {
+        if component.contains(&b'\\') {
             return Some(Verdict::PathSeparator);
         }
         has_prefix(component).then_some(Verdict::WindowsPathPrefix)

@@ -4,15 +4,15 @@ use std::fmt;
 
 impl fmt::Display for Error<'_> {
     fn fmt<W: fmt::Write>(&self, f: &mut fmt::Formatter<W>) -> fmt::Result {
-        match self.tag_error() {
-            Some(error) => write!(f, "{error}"),
-            None => match self {
-                Error::SomeLowercase => write!(
-                    f,
-                    "a name with no slash must be of capital letters and underscores, like HEAD"
-                ),
-                _ => write!(f, "this name is reserved"),
-            },
+        match self {
+            Error::SomeLowercase => f.write_str(
+                "a name with no slash must be of capital letters and underscores, like HEAD",
+            ),
+            Error::Reserved(_) => f.write_str("this name is reserved"),
+            // Each other case is a tag name's.
+            _ => self.tag_error().map_or(Ok(()), |error| error.fmt(f)),
         }
     }
 }
+
+impl std::error::Error for Error<'_> {}

@@ -1,4 +1,4 @@
-//! Reference names: their errors, and the checks of partial, complete and branch names.
+//! Reference names: their errors, the checks of partial, complete and branch names, and the mender of partial ones.
 #![tactic(auto)]
 
 ghost use Rattle.std.specs.Prelude.{◌≡◌, ◌≤◌, length, take, is_ok, IfOk, Decides};
@@ -57,12 +57,11 @@ impl Error<'_> {
     pub fn number(&self) -> u8
         ensures { result ≡ number_of (refusal self.now) }
     {
-        match self.tag_error() {
-            Some(error) => error.number(),
-            None => match self {
-                Error::SomeLowercase => 12,
-                _ => 13,
-            },
+        match self {
+            Error::SomeLowercase => 12,
+            Error::Reserved(_) => 13,
+            // Each other case is a tag name's, so no error has the number 0.
+            _ => self.tag_error().map_or(0, |error| error.number()),
         }
     }
 

@@ -13,7 +13,7 @@ use filesystems::FileSystem;
 use protections::Mode;
 use rulebooks::Rulebook;
 
-// The calls repeat four clauses: each says one fact, and a record of them would take the answer, the meaning, the entries and the call.
+// The calls repeat four clauses, each of which says one fact: a definition that joined them would need four arguments.
 impl<R: Rulebook, F: FileSystem> Register<R, F> {
     /// A register with no entry.
     pub fn new(rules: R, files: F) -> Register<R, F>
@@ -35,9 +35,8 @@ impl<R: Rulebook, F: FileSystem> Register<R, F> {
         ensures unaltered { OnErr result (self.new ≡ self.old) }
     {
         let kept = self.checked(name, mode)?;
-        if let Some(place) = self.table.first_meeting(&self.files, name, None) {
-            return Err(StateFault::Met { place }.into());
-        }
+        self.unmet(name, None)?;
+        // The table asks for room, since a rename has it: a `put` that answers a Result would be unwrapped there.
         if self.table.is_full() {
             return Err(StateFault::Full.into());
         }
@@ -58,9 +57,7 @@ impl<R: Rulebook, F: FileSystem> Register<R, F> {
     {
         let kept = self.checked(new, mode)?;
         let from = self.table.place_of(old).ok_or(StateFault::NotKept)?;
-        if let Some(place) = self.table.first_meeting(&self.files, new, Some(old)) {
-            return Err(StateFault::Met { place }.into());
-        }
+        self.unmet(new, Some(old))?;
         Ok(self.table.rename(from, kept, mode))
     }
 

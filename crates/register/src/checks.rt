@@ -1,20 +1,32 @@
-//! What is wrong with a name and its mode by themselves.
-ghost use Rattle.std.specs.Prelude.{◌≡◌, ◌<◌, ◌≤◌, length, IfOk, MatchResult, None as no_fault};
+//! What is wrong with a name and its mode by themselves, and whether a kept name meets a new one.
+ghost use Rattle.std.specs.Prelude.{◌≡◌, ℕ, ◌<◌, ◌≤◌, length, IfOk, MatchResult, None as no_fault, Some as met_place};
+ghost use Rattle.std.specs.Option.{option_map};
 ghost use Rattle.tag.specs.Components.{components};
-ghost use Rattle.claims.specs.Calls.{first_verdict, name_fault, or_else};
+ghost use Rattle.claims.specs.Calls.{first_meeting, first_verdict, name_fault, or_else};
 ghost use Rattle.register.specs.Faults.{fault_of};
-ghost use Rattle.register.specs.declared.faults.StateFault.TheVariants.{TooLong as too_long};
+ghost use Rattle.register.specs.declared.faults.StateFault.TheVariants.{Met as met_at, TooLong as too_long};
 ghost use Rattle.register.specs.Meanings.{meaning_of};
+ghost use Rattle.register.specs.Registers.{entries_in};
 
 use crate::Register;
 use crate::faults::{Fault, StateFault};
-use crate::table::Name;
+use crate::table::{LONGEST, Name};
 use filesystems::FileSystem;
 use protections::Mode;
 use rulebooks::{Rulebook, ask};
 use tag::components::Components;
 
-/// The name as it is kept, unless it is too long.
+/// Refuses a name or text that is longer than a kept name may be.
+pub(crate) fn fits(text: &[u8]) -> Result<(), StateFault>
+    ensures { MatchResult result (λ _. length text.now ≤ 255) (λ fault. (255 < length text.now) × (fault ≡ too_long)) }
+{
+    if text.len() > LONGEST {
+        return Err(StateFault::TooLong);
+    }
+    Ok(())
+}
+
+/// The name as it is kept, unless it is too long, which the conversion tells.
 fn kept_name(name: &[u8]) -> Result<Name, StateFault>
     ensures { MatchResult result (λ kept. (kept.items ≡ name.now) × (length name.now ≤ 255)) (λ fault. (255 < length name.now) × (fault ≡ too_long)) }
 {
@@ -40,6 +52,7 @@ fn judge<F: FileSystem>(
 fn judge_components<F: FileSystem>(files: &F, name: &Name, mode: Option<Mode>) -> Result<(), Fault>
     ensures { fault_of result ≡ first_verdict (F.FileSystem.judged files.now) mode 0 (components name.now.items) }
 {
+    // Two passes and a plain `for`: with `peekable` it would be a `while let` with a `peek` in each turn.
     let last = Components::of(name).count() - 1;
     for (index, component) in Components::of(name).enumerate() {
         let own = if index == last { mode } else { None };
@@ -58,5 +71,15 @@ impl<R: Rulebook, F: FileSystem> Register<R, F> {
         ask(&self.rules, name)?;
         judge_components(&self.files, &kept, mode)?;
         Ok(kept)
+    }
+
+    /// Refuses a name that a kept one meets; the name `except` is left out.
+    pub(crate) fn unmet(&self, name: &[u8], except: Option<&[u8]>) -> Result<(), StateFault>
+        ensures { MatchResult result (λ _. no_fault ≡ first_meeting (F.FileSystem.together self.now.files) (option_map (λ x. x.now) except.entry) name.now (entries_in self.now)) (λ fault. (place : ℕ) × (met_place place ≡ first_meeting (F.FileSystem.together self.now.files) (option_map (λ x. x.now) except.entry) name.now (entries_in self.now)) × (fault ≡ met_at place)) }
+    {
+        match self.table.first_meeting(&self.files, name, except) {
+            Some(place) => Err(StateFault::Met { place }),
+            None => Ok(()),
+        }
     }
 }

@@ -33,6 +33,7 @@ pub enum Fault {
 
 impl StateFault {
     /// The number of the refusal.
+    // A table, since the cases of an enum of which one carries a place have no numbers of their own.
     pub fn number(&self) -> u8
         ensures { result ≡ number_of (state_in self.now) }
     {

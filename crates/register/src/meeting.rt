@@ -1,2 +1,2 @@
-//! When two names meet on a file system.
+//! The question whether two names meet, by its name in this crate.
 pub use meetings::meets;

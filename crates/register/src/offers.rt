@@ -7,7 +7,8 @@ ghost use Rattle.register.specs.Meanings.{mending_meaning_in};
 ghost use Rattle.register.specs.Registers.{SameRules, entries_in};
 
 use crate::Register;
-use crate::faults::{Fault, StateFault};
+use crate::checks::fits;
+use crate::faults::Fault;
 use crate::table::LONGEST;
 use filesystems::FileSystem;
 use rulebooks::{MendingRulebook, mend_into};
@@ -20,10 +21,8 @@ impl<R: MendingRulebook, F: FileSystem> Register<R, F> {
         ensures same_rules { SameRules self.old self.new }
         ensures unaltered { OnErr result (self.new ≡ self.old) }
     {
-        if text.len() > LONGEST {
-            return Err(StateFault::TooLong.into());
-        }
-        // The length is used at once, where a vector of fixed capacity would be filled and cut back by one line more.
+        fits(text)?;
+        // Only its front is used, and at once: an `ArrayVec` would have to be filled first and cut back after.
         let mut buffer = [0; LONGEST];
         let length = mend_into(&self.rules, text, &mut buffer).unwrap();
         self.enter(&buffer[..length], number, None)

@@ -12,14 +12,15 @@ ghost use Rattle.register.specs.Rows.{entry_of};
 ghost use Rattle.register.specs.Shown.{shown};
 
 use crate::Register;
-use crate::faults::{Fault, StateFault};
-use crate::table::{LONGEST, Row};
+use crate::checks::fits;
+use crate::faults::Fault;
+use crate::table::Row;
 use filesystems::FileSystem;
 use protections::Mode;
 use rulebooks::Rulebook;
 
 /// An entry: a name, its number and its mode.
-#[derive(Clone, Copy)]
+#[derive(Clone, Copy, Debug, PartialEq, Eq)]
 pub struct Entry<'a> {
     pub name: &'a [u8],
     pub number: u32,
@@ -58,9 +59,7 @@ impl<R: Rulebook, F: FileSystem> Register<R, F> {
         ensures answer { MatchResult result (λ p. (length name.now ≤ 255) × (p ≡ first_meeting (F.FileSystem.together self.now.files) left_out_none name.now (entries_in self.now))) (λ f. (255 < length name.now) × (fault_in f ≡ by_state 32 0)) }
         ensures words { IfOk result (FirstMet (F.FileSystem.together self.now.files) name.now (entries_in self.now)) }
     {
-        if name.len() > LONGEST {
-            return Err(StateFault::TooLong.into());
-        }
+        fits(name)?;
         Ok(self.table.first_meeting(&self.files, name, None))
     }
 

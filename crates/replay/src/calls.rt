@@ -53,6 +53,7 @@ impl Recorded<'_> {
 }
 
 /// The check of tag names, with its error as that of a reference name.
+// The exported calls have it for themselves: a public call of it would stand beside `tag::name` with nothing more to say.
 fn tag_name(input: &[u8]) -> Result<&[u8], Error<'_>> {
     Ok(tag::name(input)?)
 }

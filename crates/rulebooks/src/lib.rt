@@ -28,7 +28,7 @@ pub struct Refusal {
 
 /// Which byte strings are names. All values of a type mean the same.
 pub trait Rulebook {
-    /// The number of the kind.
+    /// The number of the kind. A number, since a rulebook of another crate has a kind of its own: a fixed form, docs/DECISIONS.md.
     const KIND: u8;
 
     // The same number in contracts; the check proves that the two are equal.
@@ -87,6 +87,7 @@ impl From<tag::Error> for Refusal {
 /// A refusal with the kind of the rulebook that gave it.
 #[derive(Clone, Copy, Debug, PartialEq, Eq)]
 pub struct RulebookFault {
+    // A number like `Rulebook::KIND`: a fixed form, docs/DECISIONS.md.
     pub kind: u8,
     pub refusal: Refusal,
 }

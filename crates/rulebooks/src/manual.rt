@@ -22,5 +22,6 @@ pub fn ask_by_manual<R: ManualRulebook>(rules: &R, name: &[u8]) -> Result<(), Ru
     ensures filled { OnOk result ((c : List ℕ) → Among c (components name.now) → c ≢ []) }
     ensures manual { IsOk result ↔ R.ManualRulebook.rules name.now }
 {
+    // The first three clauses are those of `ask`: a definition for both would need the answer, the rulebook and the name.
     ask(rules, name)
 }

@@ -15,6 +15,8 @@ ghost use Rattle.rulebooks.specs.Rulings.{ruling};
 
 use super::{ManualRulebook, MendingRulebook, Refusal, Rulebook};
 
+// Each kind has impls of its own: they differ in the number, the call and the laws, and have nothing else.
+
 /// Kind 1: partial reference names.
 #[derive(Clone, Copy, Debug)]
 pub struct PartialNames;

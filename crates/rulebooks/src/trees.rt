@@ -13,6 +13,7 @@ use tag::components::Components;
 pub fn component_end(path: &[u8]) -> usize
     ensures { FirstEnds path.now result }
 {
+    // The place of the slash is all that is asked: a cut at it, by `split_once`, would only be measured.
     path.iter()
         .position(|byte| *byte == b'/')
         .unwrap_or(path.len())
@@ -63,7 +64,6 @@ impl Rulebook for TreePaths {
     }
 }
 
-// It stays beside `ask`, since the clause `leftmost` is of tree paths alone.
 /// Asks the rulebook of tree paths; a refusal tells the leftmost component that is not proper.
 #[tactic(auto, using(crate::proofs::Leftmost::path_ruled))]
 pub fn tree_path(path: &[u8]) -> Result<(), RulebookFault>
@@ -71,5 +71,6 @@ pub fn tree_path(path: &[u8]) -> Result<(), RulebookFault>
     ensures kind { IfErr result (λ f. f.kind ≡ 5) }
     ensures leftmost { PathRuled (components path.now) (fault_ruling result) }
 {
+    // It stays beside `ask`, since the clause `leftmost` is of tree paths alone.
     ask(&TreePaths, path)
 }

@@ -1,3 +1,4 @@
 -- The definitions that the contracts of lists of calls cite.
+pub mod Laws
 pub mod Listed
 pub mod Campus

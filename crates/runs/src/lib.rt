@@ -10,6 +10,7 @@ ghost use Rattle.register.specs.Faults.{outcome_of};
 ghost use Rattle.register.specs.Meanings.{meaning_in, mending_meaning_in};
 ghost use Rattle.register.specs.Registers.{SameRules, entries_in};
 ghost use Rattle.register.specs.declared.Register.{Register};
+ghost use Rattle.runs.specs.Laws.{laws_kept};
 ghost use Rattle.runs.specs.Listed.{call_of, change_of, first_done};
 
 use filesystems::FileSystem;
@@ -19,7 +20,7 @@ use register::faults::Fault;
 use rulebooks::{MendingRulebook, Rulebook};
 
 /// A call that every register takes, with its arguments.
-#[derive(Clone, Copy)]
+#[derive(Clone, Copy, Debug, PartialEq, Eq)]
 pub enum Change<'a> {
     Enter {
         name: &'a [u8],
@@ -37,7 +38,7 @@ pub enum Change<'a> {
 }
 
 /// A call that a register takes whose rulebook mends.
-#[derive(Clone, Copy)]
+#[derive(Clone, Copy, Debug, PartialEq, Eq)]
 pub enum Call<'a> {
     Change(Change<'a>),
     Offer { text: &'a [u8], number: u32 },
@@ -88,14 +89,10 @@ impl<'a, R: Rulebook, F: FileSystem> Request<R, F> for Change<'a> {
         }
     }
 
+    // One word, here and in the other impl: a register's meaning is read of its rules and files alone.
     ghost same_meaning = { λ r s same. Prim.cc };
 
-    ghost lawful = { λ r. record {
-      filled = R.filled;
-      symmetric = F.symmetric r.files;
-      some_key = (F.keyed r.files).0;
-      keyed = (F.keyed r.files).1;
-    } };
+    ghost lawful = { λ r. laws_kept R.filled (F.symmetric r.files) (F.keyed r.files) };
 
     ghost mending = { λ r offers. absurd (false≢true offers) };
 }
@@ -116,12 +113,7 @@ impl<'a, R: MendingRulebook, F: FileSystem> Request<R, F> for Call<'a> {
 
     ghost same_meaning = { λ r s same. Prim.cc };
 
-    ghost lawful = { λ r. record {
-      filled = R.filled;
-      symmetric = F.symmetric r.files;
-      some_key = (F.keyed r.files).0;
-      keyed = (F.keyed r.files).1;
-    } };
+    ghost lawful = { λ r. laws_kept R.filled (F.symmetric r.files) (F.keyed r.files) };
 
     ghost mending = { λ r offers. record {
       mended_allowed = R.always_allowed;

@@ -1,18 +1,17 @@
 -- Reading a name from the left, at an index.
-use Rattle.std.proofs.Common.{◌≡◌, ℕ, ◌+◌, ◌<◌, Bool, true, false, cond, ◌&&◌, eqb, List, [], ◌∷◌, ◌++◌, length, get_or, take, drop, sym, ap, ◌∙◌, subst, ⊎_elim, arith}
+use Rattle.std.proofs.Common.{◌≡◌, ℕ, ◌+◌, ◌<◌, Bool, true, false, cond, ◌&&◌, eqb, List, [], ◌∷◌, ◌++◌, length, get_or, take, drop, sym, refl, ap, ◌∙◌, subst, ⊎_elim, arith}
 use Rattle.std.proofs.lemmas.List.{drop_more, take_more, get_or_push, length_push}
-use Rattle.std.proofs.lemmas.Bool.{and_left, and_right, cases_eq, ne_eqb}
 use Rattle.std.proofs.lemmas.Bool.Decides.{nat_tests}
+use Rattle.std.proofs.lemmas.Bool.{and_left, and_right, cases_eq, ne_eqb}
 use Rattle.tag.specs.Answers.{Answer, first_of}
 use Rattle.tag.specs.Answers.Answer.{allowed, refused}
 use Rattle.tag.specs.Answers.Value.{nothing}
 use Rattle.tag.specs.Bytes.{last_byte, ends_in_lock}
 use Rattle.tag.specs.Errors.{refusal}
 use Rattle.tag.specs.Names.{pair, fault, reads}
-use Rattle.tag.specs.Ordinary.{ordinary}
-use Rattle.tag.specs.Scanning.{after}
 use Rattle.tag.specs.declared.Error.{Error}
-use Rattle.tag.specs.declared.scanner.Scanner.TheVariants.{AfterOther}
+use Rattle.tag.specs.Scanning.{after}
+use Rattle.tag.specs.declared.scanner.Scanner.TheVariants.{AfterSlash}
 use Rattle.tag.proofs.Firsts.{first_refuses}
 
 -- The byte that was added last is the last byte.
@@ -22,15 +21,12 @@ last_byte_push s b = get_or_push s b 0 _ (simp length_push (omega arith))
 pub last_byte_more : (s : List ℕ) (i : ℕ) → i < length s → last_byte (take (i + 1) s) ≡ get_or s i 0
 last_byte_more s i h = ap last_byte (take_more s i 0 h) ∙ last_byte_push (take i s) (get_or s i 0)
 
--- An ordinary byte has no fault after any byte, is no slash, and leaves the state AfterOther.
-pub ordinary_passes : (b : ℕ) → ordinary b ≡ true → (a : ℕ) → allowed ≡ pair a b
-ordinary_passes b h a = grind (arith, nat_tests)
+-- The state is AfterSlash behind a slash, and only there.
+pub after_slash : (b : ℕ) → b ≡ 47 → after b ≡ AfterSlash
+after_slash b e = rw e refl
 
-pub ordinary_no_slash : (b : ℕ) → ordinary b ≡ true → b ≡ 47 → ⊥
-ordinary_no_slash b h e = grind (arith, nat_tests)
-
-pub ordinary_after : (b : ℕ) → ordinary b ≡ true → after b ≡ AfterOther
-ordinary_after b h = grind (arith, nat_tests)
+pub slash_after : (b : ℕ) → after b ≡ AfterSlash → b ≡ 47
+slash_after b h = grind (arith, nat_tests)
 
 -- One byte on.
 pub reads_step :
@@ -76,15 +72,3 @@ module _ (s : List ℕ) (i : ℕ) (h : i < length s) (p : allowed ≡ pair (last
   reads_on q =
       sym (reads_step s i h ∙ ap (λ w. first_of w (reads (take (i + 1) s) (drop (i + 1) s)))
       (lock_passes (get_or s i 0) (ends_in_lock (take i s)) (pair (last_byte (take i s)) (get_or s i 0)) p q))
-
--- The byte at i is ordinary.
-pub reads_ordinary :
-    (s : List ℕ) (i : ℕ)
-    → i < length s
-    → ordinary (get_or s i 0) ≡ true
-    → (AfterOther ≡ after (last_byte (take (i + 1) s)))
-    × (reads (take (i + 1) s) (drop (i + 1) s) ≡ reads (take i s) (drop i s))
-reads_ordinary s i h o = (
-  sym (ap after (last_byte_more s i h) ∙ ordinary_after (get_or s i 0) o),
-  reads_on s i h (ordinary_passes (get_or s i 0) o (last_byte (take i s))) (λ e. absurd (ordinary_no_slash (get_or s i 0) o e)),
-)

@@ -21,6 +21,7 @@ impl<'a> Components<'a> {
     }
 }
 
+// The library's `split` would give the same, but its type has that of its closure, which a struct cannot name.
 impl<'a> Iterator for Components<'a> {
     type Item = &'a [u8];
 

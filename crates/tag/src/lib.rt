@@ -8,7 +8,7 @@ ghost use Rattle.tag.specs.Errors.{answer_of, number_of, refusal};
 ghost use Rattle.tag.specs.Manual.{Rules};
 ghost use Rattle.tag.specs.Names.{closing, opening, reads, tag_name};
 
-use scanner::{Scanner, ordinary};
+use scanner::Scanner;
 
 pub mod components;
 pub mod display;
@@ -72,18 +72,15 @@ fn before_reading(input: &[u8]) -> Result<(), Error>
     }
 }
 
-/// Reads the bytes from the left; the first that has a fault decides. An ordinary byte has none, so it takes no step.
+/// Reads the bytes from the left; the first that has a fault decides.
 fn read(input: &[u8]) -> Result<(), Error>
     ensures { answer_of result ≡ reads [] input.now }
 {
     let mut scanner = Scanner::AfterOther;
+    // The place is needed for the bytes before it, which no adapter gives.
     for (i, byte) in input.iter().enumerate() {
-        if ordinary(*byte) {
-            scanner = Scanner::AfterOther;
-            continue;
-        }
         scanner.step(*byte)?;
-        if *byte == b'/' && ends_in_lock(&input[..i]) {
+        if matches!(scanner, Scanner::AfterSlash) && ends_in_lock(&input[..i]) {
             return Err(Error::LockFileSuffix);
         }
     }
@@ -94,7 +91,7 @@ fn read(input: &[u8]) -> Result<(), Error>
 fn after_reading(input: &[u8]) -> Result<(), Error>
     ensures { answer_of result ≡ closing input.now }
 {
-    if ends_in_lock(input) && input.len() != 5 {
+    if ends_in_lock(input) && input != b".lock".as_slice() {
         return Err(Error::LockFileSuffix);
     }
     match input {

@@ -29,11 +29,16 @@ impl Scanner {
         }
     }
 
-    /// Reads the next byte, and answers the fault that it has after the byte before it. The state moves on either way.
+    /// Reads the next byte, and answers the fault that it has after the byte before it. The state moves on either way. An
+    /// ordinary byte has no fault, so it is passed at once.
     pub fn step(&mut self, byte: u8) -> Result<(), Error>
         ensures moves { self.new ≡ after byte }
         ensures finds { (a : ℕ) → self.old ≡ after a → answer_of result ≡ pair a byte }
     {
+        if ordinary(byte) {
+            *self = Scanner::AfterOther;
+            return Ok(());
+        }
         let before = *self;
         *self = Scanner::after(byte);
         match (before, byte) {
@@ -51,6 +56,7 @@ impl Scanner {
 }
 
 /// Each byte at its place, 32 to a row: `o` for an ordinary one, and `-` for any other.
+// As patterns these would be nine ranges, which are no plainer to read.
 const CHART: [u8; 256] = *b"\
     --------------------------------\
     -ooooooooo-ooo--oooooooooo-oooo-\
@@ -65,5 +71,6 @@ const CHART: [u8; 256] = *b"\
 pub fn ordinary(byte: u8) -> bool
     ensures { result ≡ ordinary byte }
 {
+    // With `usize::from` the proof would have to name the chart's list, and no name in a proof reaches it.
     CHART[byte as usize] == b'o'
 }

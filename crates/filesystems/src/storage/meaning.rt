@@ -20,6 +20,8 @@ impl DeclaredBottom {
     }
 }
 
+// The verdict and the key are the plain protection's, as in `PlainBottom`: each is one line here, and calling `PlainBottom` for them
+// would take as many.
 impl FileSystem for DeclaredBottom {
     ghost judged = { λ _ s mode. plain_rule s mode };
 

@@ -17,7 +17,8 @@ impl Table {
     ) -> Option<usize>
         ensures { result ≡ first_meeting (F.FileSystem.together files.now) (option_map (λ x. x.now) except.entry) name.now self.now }
     {
-        // The project's rules fix this form: a search in nested loops that are left by label.
+        // A fixed form, docs/DECISIONS.md: a search in nested loops that are left by label. So the loop over the components, which is
+        // that of `meetings::meets`, stands here again.
         'search: {
             'rows: for (place, row) in self.rows.iter().enumerate() {
                 let old = row.name.as_slice();

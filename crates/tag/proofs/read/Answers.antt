@@ -6,9 +6,10 @@ use Rattle.tag.specs.Answers.Answer.{allowed}
 use Rattle.tag.specs.Bytes.{last_byte, ends_in_lock}
 use Rattle.tag.specs.Names.{pair, reads}
 use Rattle.tag.specs.Scanning.{after}
-use Rattle.tag.proofs.Reading.{reads_ordinary, reads_pair, reads_on, reads_lock, last_byte_more}
+use Rattle.tag.specs.declared.scanner.Scanner.TheVariants.{AfterSlash}
+use Rattle.tag.proofs.Reading.{after_slash, slash_after, reads_pair, reads_on, reads_lock, last_byte_more}
 use Rattle.tag.proofs.read.Goals as goal
-use Rattle.tag.proofs.read.Goals.{else-byte-eq47-via-then-byte-eq47+else-ends_in_lock, else-byte-eq47-via-else-byte-eq47}
+use Rattle.tag.proofs.read.Goals.{in-AfterSlash, in_default, else-matches-via-then-matches+else-ends_in_lock, else-matches-via-else-matches}
 
 pub returns-in_err-step : goal.returns-in_err-step
 returns-in_err-step c =
@@ -22,13 +23,11 @@ pub returns-then-ends_in_lock : goal.returns-then-ends_in_lock
 returns-then-ends_in_lock c =
     reads_lock c.args.input.now c.loop-i.i (omega arith)
     (c.in_ok-step.ensures.finds (last_byte (take c.loop-i.i c.args.input.now)) c.loop-i.invariant.0)
-    c.if-byte-eq47.true (sym c.if-ends_in_lock.ensures)
+    (elim c.match-matches.branch [
+      | in-AfterSlash w ↦ slash_after _ (sym c.step.ensures.moves ∙ w.in-AfterSlash.is)
+      | in_default w ↦ grind (arith, w.matches-is, c.if-matches.true)
+    ]) (sym c.if-ends_in_lock.ensures)
     ∙ c.loop-i.invariant.1
-
-pub loop-i-preserved-then-ordinary : goal.loop-i-preserved-then-ordinary
-loop-i-preserved-then-ordinary c =
-    let on = reads_ordinary c.args.input.now c.loop-i.i (omega arith) (sym c.if-ordinary.ensures) in
-    (on.0, on.1 ∙ c.loop-i.invariant.1)
 
 pub loop-i-preserved : goal.loop-i-preserved
 loop-i-preserved c =
@@ -36,9 +35,12 @@ loop-i-preserved c =
     let clear : allowed ≡ pair (last_byte (take c.loop-i.i c.args.input.now)) (get_or c.args.input.now c.loop-i.i 0) =
     c.in_ok-step.ensures.finds (last_byte (take c.loop-i.i c.args.input.now)) c.loop-i.invariant.0 in
     let unlocked : get_or c.args.input.now c.loop-i.i 0 ≡ 47 → ends_in_lock (take c.loop-i.i c.args.input.now) ≡ false =
-    elim c.else-byte-eq47.branch [
-      | else-byte-eq47-via-then-byte-eq47+else-ends_in_lock w ↦ λ _. sym w.if-ends_in_lock.ensures
-      | else-byte-eq47-via-else-byte-eq47 w ↦ λ e. absurd (w.if-byte-eq47.false e)
+    elim c.else-matches.branch [
+      | else-matches-via-then-matches+else-ends_in_lock w ↦ λ _. sym w.if-ends_in_lock.ensures
+      | else-matches-via-else-matches w ↦ λ e. elim c.match-matches.branch [
+        | in-AfterSlash v ↦ grind (arith, v.matches-is, w.if-matches.false)
+        | in_default v ↦ absurd (v.in_default.not-AfterSlash (c.step.ensures.moves ∙ after_slash _ e))
+      ]
     ] in (
       c.step.ensures.moves ∙ ap after (sym (last_byte_more c.args.input.now c.loop-i.i lt)),
       reads_on c.args.input.now c.loop-i.i lt clear unlocked ∙ c.loop-i.invariant.1,

@@ -18,20 +18,22 @@ returns-in_err-kept g c =
     rw (p.1, p.2)
     (record { answer = a; entries = refused_leaves m es (enter c.args.name.now c.args.number c.args.mode) _ a; same_rules = (refl, refl); unaltered = refl })
 
-pub returns-in-Some : goal.returns-in-Some
-returns-in-Some g c =
+pub returns-in_err-unmet : goal.returns-in_err-unmet
+returns-in_err-unmet g c =
     let m = meaning_in g.R.Rulebook g.F.FileSystem c.args.self.now in
     let es = entries_in c.args.self.now in
-    let a = enter_met m es c.args.name.now c.args.mode c.in_ok-kept.ensures.fault _ c.in-Some.ensures in
-    rw c.into.ensures
+    let p = err_from_is_err_and c.from_residual-in_err-unmet.result c.from_residual-in_err-unmet.ensures.1 in
+    let k = c.in_err-unmet.ensures in
+    let a = enter_met m es c.args.name.now c.args.mode c.in_ok-kept.ensures.fault _ k.1 in
+    rw (p.1, p.2, k.2)
     (record { answer = a; entries = refused_leaves m es (enter c.args.name.now c.args.number c.args.mode) _ a; same_rules = (refl, refl); unaltered = refl })
 
 pub returns-then-is_full : goal.returns-then-is_full
 returns-then-is_full g c =
     let m = meaning_in g.R.Rulebook g.F.FileSystem c.args.self.now in
     let es = entries_in c.args.self.now in
-    let a = enter_full m es c.args.name.now c.args.mode c.in_ok-kept.ensures.fault c.in_default.ensures (c.if-is_full.ensures.0 refl) in
-    rw c.into-then-is_full.ensures
+    let a = enter_full m es c.args.name.now c.args.mode c.in_ok-kept.ensures.fault c.in_ok-unmet.ensures (c.if-is_full.ensures.0 refl) in
+    rw c.into.ensures
     (record { answer = a; entries = refused_leaves m es (enter c.args.name.now c.args.number c.args.mode) _ a; same_rules = (refl, refl); unaltered = refl })
 
 pub returns : goal.returns
@@ -41,7 +43,7 @@ returns g c =
     let x = c.args.name.now in
     let name = c.in_ok-kept.ensures.name in
     let room : length es < 128 = elim (cases_lt (length es) 128) [ inl l ↦ l | inr l ↦ absurd (false≢true (c.if-is_full.ensures.1 l)) ] in
-    let a = enter_accepted m es x c.args.mode c.in_ok-kept.ensures.fault c.in_default.ensures room in
+    let a = enter_accepted m es x c.args.mode c.in_ok-kept.ensures.fault c.in_ok-unmet.ensures room in
     record {
       answer = ap accepted (c.put-place.ensures.place ∙ ap (λ z. slot z es) name) ∙ a;
       entries = c.put-place.ensures.entries

@@ -30,13 +30,15 @@ returns-in_err-from g c =
     rw (p.1, p.2, k.1)
     (record { answer = a; entries = refused_leaves m es (rename c.args.old.now c.args.new.now c.args.mode) _ a; same_rules = (refl, refl); unaltered = refl })
 
-pub returns-in-Some : goal.returns-in-Some
-returns-in-Some g c =
+pub returns-in_err-unmet : goal.returns-in_err-unmet
+returns-in_err-unmet g c =
     let m = meaning_in g.R.Rulebook g.F.FileSystem c.args.self.now in
     let es = entries_in c.args.self.now in
     let k = place_kept _ _ _ (sym c.ok_or.ensures.value ∙ c.in_ok-from.was) ∙ c.place_of.ensures in
-    let a = rename_met m es c.args.old.now c.args.new.now c.args.mode c.in_ok-kept.ensures.fault _ k _ c.in-Some.ensures in
-    rw c.into.ensures
+    let p = err_from_is_err_and c.from_residual-in_err-unmet.result c.from_residual-in_err-unmet.ensures.1 in
+    let met = c.in_err-unmet.ensures in
+    let a = rename_met m es c.args.old.now c.args.new.now c.args.mode c.in_ok-kept.ensures.fault _ k _ met.1 in
+    rw (p.1, p.2, met.2)
     (record { answer = a; entries = refused_leaves m es (rename c.args.old.now c.args.new.now c.args.mode) _ a; same_rules = (refl, refl); unaltered = refl })
 
 pub rename-requires : goal.rename-requires
@@ -52,7 +54,7 @@ returns g c =
     let name = c.in_ok-kept.ensures.name in
     let k = place_kept _ _ _ (sym c.ok_or.ensures.value ∙ c.in_ok-from.was) ∙ c.place_of.ensures in
     let s = stands c.args.old.now es _ (sym k) in
-    let a = rename_accepted m es c.args.old.now c.args.new.now c.args.mode c.in_ok-kept.ensures.fault _ k c.in_default.ensures s in
+    let a = rename_accepted m es c.args.old.now c.args.new.now c.args.mode c.in_ok-kept.ensures.fault _ k c.in_ok-unmet.ensures s in
     record {
       answer = ap accepted (c.rename.ensures.place ∙ ap (λ z. slot z (without es c.in_ok-from.from)) name) ∙ a;
       entries = c.rename.ensures.entries

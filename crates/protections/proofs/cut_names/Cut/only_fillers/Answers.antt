@@ -6,14 +6,14 @@ use borrow.Author.Tests.{tests}
 use Rattle.protections.specs.Words.{among}
 use Rattle.protections.proofs.CutKey.{only_fillers_by, rest_first}
 use Rattle.protections.proofs.Equal.{tested, test_mapped}
-use Rattle.protections.proofs.cut_names.only_fillers.Goals as goal
+use Rattle.protections.proofs.cut_names.Cut.only_fillers.Goals as goal
 
 pub returns : goal.returns
 returns g c =
-    let other : ℕ → Bool = λ b. not (among g.C.Cut.fillers b) in
-    tested (λ x. among g.C.Cut.stops x.now) true c.find.result c.is_none_or.result _ c.is_none_or.ensures (λ x p. search rules)
-    ∙ test_mapped (λ x. x.now) (among g.C.Cut.stops) c.find.result true
-    ∙ ap (only_fillers_by g.C.Cut.stops g.C.Cut.fillers)
+    let other : ℕ → Bool = λ b. not (among g.Self.Cut.fillers b) in
+    tested (λ x. among g.Self.Cut.stops x.now) true c.find.result c.is_none_or.result _ c.is_none_or.ensures (λ x p. search rules)
+    ∙ test_mapped (λ x. x.now) (among g.Self.Cut.stops) c.find.result true
+    ∙ ap (only_fillers_by g.Self.Cut.stops g.Self.Cut.fillers)
     (find_from_yields_List other _ _ c.find.result c.find.ensures.ran (YieldsList-from_slice c.past_blocks.result.now (cc)) (λ x b q k. search (rules, tests)))
-    ∙ rest_first g.C.Cut.stops g.C.Cut.fillers g.met.C.Cut.apart c.past_blocks.result.now
+    ∙ rest_first g.Self.Cut.stops g.Self.Cut.fillers g.met.Self.Cut.apart c.past_blocks.result.now
     ∙ c.past_blocks.ensures

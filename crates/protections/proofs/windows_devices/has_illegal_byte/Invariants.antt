@@ -1,8 +1,8 @@
--- The loop of `holds_illegal`: the bytes so far decide.
+-- The loop of `has_illegal_byte`: the bytes so far decide.
 use Rattle.std.proofs.Common.{◌≡◌, take}
 use Rattle.std.specs.List.{list_any}
 use Rattle.protections.specs.Rules.{illegal}
-use Rattle.protections.proofs.windows_devices.holds_illegal.Given as goal
+use Rattle.protections.proofs.windows_devices.has_illegal_byte.Given as goal
 
 abbrev pub invariant-loop-byte : goal.invariant-loop-byte
 invariant-loop-byte l = l.found ≡ list_any illegal (take l.byte-index l.component)

@@ -7,8 +7,8 @@ use Rattle.listing.specs.Report.{answers_after, first_answer}
 use Rattle.listing.specs.Reading.{read_line}
 use Rattle.listing.specs.Parts.{outcome_at}
 use Rattle.listing.proofs.Reporting.{line_end, line_more, next_answer}
-use Rattle.listing.proofs.reports.add_answers.Goals as goal
-use Rattle.listing.proofs.reports.add_answers.Goals.{in-Some-read_line, in-None-read_line}
+use Rattle.listing.proofs.reports.Draft.add_answers.Goals as goal
+use Rattle.listing.proofs.reports.Draft.add_answers.Goals.{in-Some-read_line, in-None-read_line}
 
 -- The answer is the one that belongs to the line, and the others are left.
 taken : (c : goal.In_ok-add_answer)
@@ -23,11 +23,11 @@ taken c = elim c.match-read_line.branch [
 
 pub loop-line-preserved : goal.loop-line-preserved
 loop-line-preserved c =
-    line_more c.loop-line.report.items (lines_left c.loop-line.line-iterator) (map outcome_of (iter_rest c.loop-line.left)) _ c.loop-line.invariant
-    c.add_answer.new.report.items c.in-Some.line.now (lines_left c.next.new.self) (map outcome_of (iter_rest c.match-read_line.left))
+    line_more c.loop-line.self.bytes.items (lines_left c.loop-line.line-iterator) (map outcome_of (iter_rest c.loop-line.left)) _ c.loop-line.invariant
+    c.add_answer.new.self.bytes.items c.in-Some.line.now (lines_left c.next.new.self) (map outcome_of (iter_rest c.match-read_line.left))
     (option_map outcome_at c.match-read_line.answer) c.in-Some.ensures.steps c.in_ok-add_answer.ensures (taken c)
 
 pub returns : goal.returns
 returns c =
-    line_end c.loop-line.report.items (lines_left c.loop-line.line-iterator) (map outcome_of (iter_rest c.loop-line.left)) _ c.loop-line.invariant
+    line_end c.loop-line.self.bytes.items (lines_left c.loop-line.line-iterator) (map outcome_of (iter_rest c.loop-line.left)) _ c.loop-line.invariant
     c.in-None.ensures.steps.0

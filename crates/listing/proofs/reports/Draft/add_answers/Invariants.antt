@@ -5,9 +5,9 @@ use Rattle.lines.specs.Left.{lines_left}
 use Rattle.lines.specs.Lines.{lines}
 use Rattle.register.specs.Faults.{outcome_of}
 use Rattle.listing.specs.Report.{answer_lines}
-use Rattle.listing.proofs.reports.add_answers.Given as goal
+use Rattle.listing.proofs.reports.Draft.add_answers.Given as goal
 
 abbrev pub invariant-loop-line : goal.invariant-loop-line
 invariant-loop-line l =
-    vec_items l.report ++ answer_lines (lines_left l.line-iterator) (map outcome_of (iter_rest l.left))
-    ≡ vec_items l.initial.report ++ answer_lines (lines l.input) (map outcome_of l.answers)
+    vec_items l.self.bytes ++ answer_lines (lines_left l.line-iterator) (map outcome_of (iter_rest l.left))
+    ≡ vec_items l.initial.self.bytes ++ answer_lines (lines l.input) (map outcome_of l.answers)

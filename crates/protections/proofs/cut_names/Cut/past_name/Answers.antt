@@ -1,12 +1,12 @@
 -- The name stands at the front or not, and then what is left of the component decides.
 use Rattle.protections.proofs.CutKey.{name_same, name_other, name_short}
-use Rattle.protections.proofs.cut_names.past_name.Goals as goal
-use Rattle.protections.proofs.cut_names.past_name.Goals.{in_default-via-in-Some+else-named, in_default-via-in_default}
+use Rattle.protections.proofs.cut_names.Cut.past_name.Goals as goal
+use Rattle.protections.proofs.cut_names.Cut.past_name.Goals.{in_default-via-in-Some+else-named, in_default-via-in_default}
 
 pub returns-in-Some : goal.returns-in-Some
 returns-in-Some g c =
     let s = c.in-Some.ensures.cases in
-    name_same g.C.Cut.stops g.C.Cut.fillers g.met.C.Cut.stopped g.met.C.Cut.filled c.args.name.now c.args.component.now c.requires
+    name_same g.Self.Cut.stops g.Self.Cut.fillers g.met.Self.Cut.stopped g.met.Self.Cut.filled c.args.name.now c.args.component.now c.requires
     c.in-Some.front.now
     c.in-Some.rest.now
     s.1
@@ -17,11 +17,11 @@ pub returns-in_default : goal.returns-in_default
 returns-in_default g c =
     elim c.in_default.branch [
       | in_default-via-in-Some+else-named w ↦
-          name_other g.C.Cut.stops g.C.Cut.fillers g.met.C.Cut.stopped g.met.C.Cut.filled c.args.name.now c.args.component.now c.requires
+          name_other g.Self.Cut.stops g.Self.Cut.fillers g.met.Self.Cut.stopped g.met.Self.Cut.filled c.args.name.now c.args.component.now c.requires
           w.in-Some.front.now
           w.in-Some.ensures.cases.1
           w.if-named.ensures
       | in_default-via-in_default w ↦
-          name_short g.C.Cut.stops g.C.Cut.fillers g.met.C.Cut.stopped g.met.C.Cut.filled c.args.name.now c.args.component.now c.requires
+          name_short g.Self.Cut.stops g.Self.Cut.fillers g.met.Self.Cut.stopped g.met.Self.Cut.filled c.args.name.now c.args.component.now c.requires
           w.in_default.ensures.cases
     ]

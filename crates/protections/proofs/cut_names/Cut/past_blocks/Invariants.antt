@@ -2,12 +2,12 @@
 use Rattle.std.proofs.Common.{◌≡◌, [], length}
 use Rattle.protections.specs.Words.{equals}
 use Rattle.protections.specs.Keys.{cut_key}
-use Rattle.protections.proofs.cut_names.past_blocks.Given as goal
+use Rattle.protections.proofs.cut_names.Cut.past_blocks.Given as goal
 
 abbrev pub invariant-loop-after : goal.invariant-loop-after
 invariant-loop-after g l =
-    equals (cut_key g.C.Cut.stops g.C.Cut.fillers l.rest) []
-    ≡ equals (cut_key g.C.Cut.stops g.C.Cut.fillers l.bytes) []
+    equals (cut_key g.Self.Cut.stops g.Self.Cut.fillers l.rest) []
+    ≡ equals (cut_key g.Self.Cut.stops g.Self.Cut.fillers l.bytes) []
 
 abbrev pub decreases-loop-after : goal.decreases-loop-after
 decreases-loop-after g l = length l.rest
