@@ -59,6 +59,7 @@ fn enter_names(register: &mut Campus, names: &[u8], length: usize, answers: &mut
     if length == 0 {
         return;
     }
+    // C passes the names as bytes of one length, and the room for the answers.
     let room = answers.len();
     // No zip with `answers.iter_mut()`: after it nothing is known of what it wrote.
     for (index, name) in names.chunks_exact(length).enumerate().take(room) {

@@ -5,14 +5,14 @@ pub const LINK: Option<Mode> = Some(Mode::Symlink);
 
 // A component and its mode, and the number by which it is refused, or none where it is allowed.
 #[derive(Clone, Copy)]
-pub struct Case {
+pub(crate) struct Case {
     pub input: &'static [u8],
     pub mode: Option<Mode>,
     pub number: Option<u8>,
 }
 
 impl Case {
-    pub fn allowed(input: &'static [u8], mode: Option<Mode>) -> Case {
+    pub(crate) fn allowed(input: &'static [u8], mode: Option<Mode>) -> Case {
         Case {
             input,
             mode,
@@ -20,7 +20,7 @@ impl Case {
         }
     }
 
-    pub fn refused(input: &'static [u8], mode: Option<Mode>, number: u8) -> Case {
+    pub(crate) fn refused(input: &'static [u8], mode: Option<Mode>, number: u8) -> Case {
         Case {
             input,
             mode,

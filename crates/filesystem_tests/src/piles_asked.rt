@@ -36,6 +36,8 @@ fn limits(rt: HostRuntime) {
         bottom.declare(b"a", long),
         Err(DeclareError::ComponentTooLong)
     );
+    assert_eq!(rt; DeclareError::TooManyPairs.number(), 44);
+    assert_eq!(rt; DeclareError::ComponentTooLong.number(), 33);
     assert!(rt; !bottom.lie_together(b"a", long));
     assert!(rt; bottom.lie_together(b"x", &long[1..]));
 }

@@ -21,6 +21,7 @@ pub trait FileSystem {
     fn verdict(&self, component: &[u8], mode: Option<Mode>) -> Option<Verdict>
         ensures { numbered result ≡ judged self.now component.now mode };
 
+    // Two components, or two names, stand side by side wherever they are compared: no one value has both.
     /// Whether the two components lie together.
     fn lie_together(&self, left: &[u8], right: &[u8]) -> bool
         ensures { result ≡ together self.now left.now right.now };

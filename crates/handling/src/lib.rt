@@ -10,7 +10,8 @@ use lines::Lines;
 use std::alloc::{AllocError, Global};
 
 /// The handle that a text is mended to.
-// The mender writes to a buffer of bytes and answers a length, which a project rule fixes for the exported calls: so the length is cut to here.
+// The mender writes to a buffer of bytes and answers a length, a fixed form of the calls that C makes (docs/DECISIONS.md): so the
+// length is cut to here.
 pub fn handle(heap: Global, text: &[u8]) -> Result<Vec<u8>, AllocError>
     ensures { IfOk result (λ v. v.items ≡ mended text.now) }
 {
@@ -56,6 +57,7 @@ impl Draft {
         self.bytes.extend_from_slice(words.as_bytes())?;
         self.bytes.extend_from_slice(bytes)?;
         self.bytes.push(b'\n')?;
+        // Counted where the line is added, here and for a text that is kept.
         self.lines += 1;
         Ok(())
     }

@@ -25,6 +25,7 @@ pub mod reports;
 /// The most bytes of input that are read.
 pub const LONGEST_INPUT: usize = 16384;
 
+// The heap stands beside an input where what is answered is allocated.
 /// The calls among the lines of an input.
 fn read_calls<'a>(heap: Global, input: &'a [u8]) -> Result<Vec<Call<'a>>, AllocError>
     ensures { IfOk result (λ v. map call_of v.items ≡ calls_in (lines_of input.now)) }

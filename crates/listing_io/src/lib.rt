@@ -8,6 +8,7 @@ use std::io::{Read, Write};
 fn read_input(rt: &HostRuntime) -> anyhow::Result<Vec<u8>> {
     let mut input = Vec::new(rt.alloc());
     rt.stdin()
+        // No `From` goes from a `usize` to a `u64`.
         .take(LONGEST_INPUT as u64 + 1)
         .read_to_end(&mut input)?;
     Ok(input)

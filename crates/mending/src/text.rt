@@ -36,7 +36,7 @@ fn write_healed(component: &[u8], out: &mut [u8]) -> usize
 
 /// The text made so far: the first `end` bytes of the buffer.
 // The buffer is the caller's, and there is no heap, so the text's length stands beside it.
-pub struct Text<'a> {
+pub(crate) struct Text<'a> {
     buffer: &'a mut [u8],
     end: usize,
     ghost fits: { end ≤ length buffer.now },
@@ -48,7 +48,7 @@ impl<'a> Text<'a> {
     ghost use Rattle.mending.specs.Texts.{text_of, SameBuffer};
 
     /// No text yet, in this buffer.
-    pub fn new(buffer: &'a mut [u8]) -> Text<'a>
+    pub(crate) fn new(buffer: &'a mut [u8]) -> Text<'a>
         ensures same_reference { result.buffer.ghost_name ≡ buffer.entry.ghost_name }
         ensures same_bytes { result.buffer.now ≡ buffer.old }
         ensures empty { result.end ≡ 0 }
@@ -99,7 +99,7 @@ impl<'a> Text<'a> {
     }
 
     /// Adds a component, mended, with a slash before it unless it is the first. An empty one adds nothing.
-    pub fn push_component(&mut self, component: &[u8])
+    pub(crate) fn push_component(&mut self, component: &[u8])
         requires slash_free { Among 47 component.now → ⊥ }
         requires room { gap self.old.end + length component.now ≤ length self.old.buffer.now }
         ensures keeps { SameBuffer self.old self.new }
@@ -118,7 +118,7 @@ impl<'a> Text<'a> {
     }
 
     /// Mends the ends of the text: a dash for a last dot, and for a text that is empty or `@`.
-    pub fn mend_ends(&mut self)
+    pub(crate) fn mend_ends(&mut self)
         requires { 0 < length self.old.buffer.now }
         ensures keeps { SameBuffer self.old self.new }
         ensures mends { text_of self.new ≡ dash_alone (dash_end (text_of self.old)) }
@@ -131,7 +131,7 @@ impl<'a> Text<'a> {
     }
 
     /// Clears what the text leaves of the buffer, and answers the text's length.
-    pub fn finish(self) -> usize
+    pub(crate) fn finish(self) -> usize
         ensures value { result ≡ length (text_of self.entry) }
         ensures cleared { self.exit.0.now ≡ text_of self.entry ++ replicate (length self.entry.buffer.now - result) 0 }
     {

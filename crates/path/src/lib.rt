@@ -17,6 +17,7 @@ use protections::{
 use std::fmt;
 
 /// Why a component is refused.
+// Six cases are those of a verdict: an enum for both would let a verdict say that the name is empty or relative.
 #[derive(Clone, Copy, PartialEq, Eq, Debug)]
 pub enum Error {
     Empty = 21,
@@ -102,6 +103,7 @@ impl Options {
     }
 }
 
+// All are on, where a derive would turn all off.
 impl Default for Options {
     ghost is_default = { λ o. (o.protect_windows ≡ true) × (o.protect_hfs ≡ true) × (o.protect_ntfs ≡ true) };
 

@@ -15,6 +15,7 @@ pub(crate) trait Cut {
 
     ghost fillers: { List ℕ };
 
+    // An impl names each set twice, here as bytes and above as numbers, since its laws are of the numbers alone.
     fn is_stop(&self, byte: u8) -> bool
         ensures { result ≡ among stops byte };
 
@@ -28,8 +29,8 @@ pub(crate) trait Cut {
 
     ghost filled: { (b : ℕ) → among fillers (to_ascii_lowercase b) ≡ among fillers b };
 
-    // Whether all bytes are fillers. The loop has no early exit, so that it reads many bytes at a time; a `fold` with `&` would
-    // be no plainer.
+    // Whether all bytes are fillers. The loop has no early exit, so that it reads many bytes at a time. A `fold` with `&` would be
+    // no shorter in all: its proof has to follow the runs of the iterator, where the loop has an invariant of a line.
     final fn all_fillers(&self, bytes: &[u8]) -> bool
         ensures { result ≡ list_all (among fillers) bytes.now }
     {

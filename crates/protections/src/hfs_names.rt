@@ -1,11 +1,11 @@
 //! The protection for HFS+: characters that it passes over do not count.
-ghost use Rattle.std.specs.Prelude.{◌≡◌};
+ghost use Rattle.std.specs.Prelude.{◌≡◌, ◌==◌, slice_index};
 ghost use Rattle.protections.specs.Keys.{ignored, hfs_key};
 ghost use Rattle.protections.specs.Rules.{hfs_rule};
 ghost use Rattle.protections.specs.Bound.{hfs_bounded};
 
-use crate::keys::{Keyed, named, small};
-use crate::rules::{Mode, Protection, Verdict, git_verdict, is_link};
+use crate::keys::{Keyed, small};
+use crate::rules::{Mode, Protection, Verdict, verdict_by_key};
 use characters::take_part;
 
 /// Refuses what HFS+ takes for `.git`, and for `.gitmodules` as a link.
@@ -43,12 +43,23 @@ impl Keyed for Hfs {
     }
 }
 
+// Whether the key begins with a dot, as the names do that are refused. It is asked first, since without it the check of a
+// component of one byte takes a third longer.
+fn begins_with_dot(component: &[u8]) -> bool
+    ensures { result ≡ (slice_index (hfs_key component.now) 0 == 46) }
+{
+    let mut rest = component;
+    Hfs.advance(&mut rest) == Some(0x2E)
+}
+
 impl Protection for Hfs {
     ghost judged = { λ _ s mode. hfs_rule s mode };
 
     #[tactic(auto, unfolding(crate::specs::Rules::hfs_rule))]
     fn verdict(&self, component: &[u8], mode: Option<Mode>) -> Option<Verdict> {
-        let modules = is_link(mode) && named(self, component, b".gitmodules");
-        git_verdict(named(self, component, b".git"), modules)
+        if !begins_with_dot(component) {
+            return None;
+        }
+        verdict_by_key(self, component, mode)
     }
 }

@@ -1,9 +1,11 @@
 //! Verdicts on components, and what a protection is.
 ghost use Rattle.std.specs.Prelude.{◌≡◌, ℕ, Bool, cond, List, Some, None, Option as Maybe};
 ghost use Rattle.protections.specs.declared.rules.Mode.{Mode as Kind};
+ghost use Rattle.protections.specs.Names.{git as git_name, modules as modules_name};
 ghost use Rattle.protections.specs.Rules.{number_of, numbered, guarded, linked};
+ghost use Rattle.protections.specs.Words.{equals};
 
-use crate::keys::Keyed;
+use crate::keys::{Keyed, named};
 
 /// The kind of a path's last component, where it matters.
 #[derive(Clone, Copy, PartialEq, Eq, Debug)]
@@ -58,4 +60,16 @@ pub(crate) fn git_verdict(git: bool, linked_modules: bool) -> Option<Verdict>
         return Some(Verdict::DotGitDir);
     }
     linked_modules.then_some(Verdict::SymlinkedGitModules)
+}
+
+// The verdict on a component by a key that is taken whole for that of `.git` or of `.gitmodules`.
+pub(crate) fn verdict_by_key<K: Keyed>(
+    keyed: &K,
+    component: &[u8],
+    mode: Option<Mode>,
+) -> Option<Verdict>
+    ensures { numbered result ≡ guarded (equals (K.Keyed.key keyed.now component.now) git_name) (equals (K.Keyed.key keyed.now component.now) modules_name) mode }
+{
+    let modules = is_link(mode) && named(keyed, component, b".gitmodules");
+    git_verdict(named(keyed, component, b".git"), modules)
 }

@@ -107,6 +107,7 @@ fn kept_from_branches(input: &[u8]) -> bool
     input == b"refs/heads/HEAD".as_slice() || input.starts_with(b"refs/heads/-")
 }
 
+// The three checks have a clause `view` each: one fact of each answer.
 /// Whether `input` is an allowed partial name: then it is the answer itself, and else the first refusal is.
 pub fn name_partial(input: &[u8]) -> Result<&[u8], Error<'_>>
     ensures answer { answer_of result ≡ partial_name input.now }

@@ -28,6 +28,7 @@ impl<R: Rulebook, F: FileSystem> Register<R, F> {
     }
 
     /// Puts a name in, with its number and mode, and answers its place.
+    // Three arguments: an `Entry` would be a literal of a struct at each call.
     pub fn enter(&mut self, name: &[u8], number: u32, mode: Option<Mode>) -> Result<usize, Fault>
         ensures answer { outcome_of result ≡ entering (meaning_in R.Rulebook F.FileSystem self.old) (entries_in self.old) name.now mode }
         ensures entries { entries_in self.new ≡ entries_after (meaning_in R.Rulebook F.FileSystem self.old) (entries_in self.old) (an_enter name.now number mode) }

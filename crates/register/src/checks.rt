@@ -42,10 +42,9 @@ fn judge<F: FileSystem>(
 ) -> Result<(), Fault>
     ensures { fault_of result ≡ or_else (F.FileSystem.judged files.now component.now mode) index no_fault }
 {
-    match files.verdict(component, mode) {
-        Some(verdict) => Err(Fault::Component { verdict, index }),
-        None => Ok(()),
-    }
+    files
+        .verdict(component, mode)
+        .map_or(Ok(()), |verdict| Err(Fault::Component { verdict, index }))
 }
 
 /// The verdicts on the components from the left: the mode is the last one's, and earlier ones have none.
@@ -77,9 +76,8 @@ impl<R: Rulebook, F: FileSystem> Register<R, F> {
     pub(crate) fn unmet(&self, name: &[u8], except: Option<&[u8]>) -> Result<(), StateFault>
         ensures { MatchResult result (λ _. no_fault ≡ first_meeting (F.FileSystem.together self.now.files) (option_map (λ x. x.now) except.entry) name.now (entries_in self.now)) (λ fault. (place : ℕ) × (met_place place ≡ first_meeting (F.FileSystem.together self.now.files) (option_map (λ x. x.now) except.entry) name.now (entries_in self.now)) × (fault ≡ met_at place)) }
     {
-        match self.table.first_meeting(&self.files, name, except) {
-            Some(place) => Err(StateFault::Met { place }),
-            None => Ok(()),
-        }
+        self.table
+            .first_meeting(&self.files, name, except)
+            .map_or(Ok(()), |place| Err(StateFault::Met { place }))
     }
 }

@@ -17,8 +17,8 @@ pub mod trees;
 
 pub use manual::{ManualRulebook, ask_by_manual};
 
-/// A refusal by a rulebook. A rulebook of another crate gives numbers of its own, and the project's rules fix that a fault is a
-/// kind, a number and a value: so it is no enum.
+/// A refusal by a rulebook. A rulebook of another crate gives numbers of its own, and a fault is a kind, a number and a value, a
+/// fixed form (docs/DECISIONS.md): so it is no enum.
 #[derive(Clone, Copy, Debug, PartialEq, Eq)]
 pub struct Refusal {
     pub number: u8,
@@ -47,6 +47,7 @@ pub trait Rulebook {
 pub trait MendingRulebook: Rulebook {
     ghost mended: { List ℕ → List ℕ };
 
+    // The text and the buffer stand side by side in each call that mends, as in the ported crate's: they are no one value.
     /// Writes the mended text of `text` to the front of the buffer, and answers its length.
     fn mend(&self, text: &[u8], out: &mut [u8]) -> Result<usize, mending::Error>
         ensures answer { outcome_of result ≡ outcome_with (mended text.now) text.now (length out.old) }
@@ -59,6 +60,7 @@ pub trait MendingRulebook: Rulebook {
     ghost allowed_stays: { (s : List ℕ) → Self.Rulebook.meaning s ≡ allowed → mended s ≡ s };
 }
 
+// An arm for the case that has a byte and one for all others.
 impl<'a> From<reference::Error<'a>> for Refusal {
     ghost from_gives = { λ e r. ruling_in r ≡ ruling (reference_errors.refusal e) };
 

@@ -2,6 +2,7 @@
 use super::Error;
 use std::fmt;
 
+// A text for each case, which no derive has.
 impl fmt::Display for Error {
     fn fmt<W: fmt::Write>(&self, f: &mut fmt::Formatter<W>) -> fmt::Result {
         match self {
