@@ -3,7 +3,8 @@
 
     python3 tools/places.py [POINT] [--repo FOLDER]
 
-A row is a place to read, by its file, line and text; docs/DESIGN-PASS.md says of each what became of it. The points:
+A row is a place to read, by its file, line and text; with no POINT the rows are only counted. docs/DESIGN-PASS.md lists the places
+that reading found. The points:
 1 enums of one's own, checks that answer an error in an Option, numbers for kinds or refusals; 2 blocks of at least five lines that stand
 twice but for names; 3 loops with an index or a counter; 4 comparison, conversion and printing by hand; 5 clauses that stand in three or more
 functions, and parameters that stand together in three or more; 6 fixed arrays and lengths beside them; 7 switches on a letter or a flag,

@@ -13,6 +13,7 @@ pub use sequence::Characters;
 mod sequence;
 
 /// What the front of a byte string gives.
+// A replaced part is told from a real U+FFFD, so both cases have a length: a struct with an optional code point would be no plainer.
 #[derive(Clone, Copy, PartialEq, Eq, Debug)]
 pub enum Part {
     /// A well-formed sequence of so many bytes, and its code point.

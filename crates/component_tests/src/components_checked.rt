@@ -24,7 +24,7 @@ const BOTH: Options = Options {
     ..NTFS
 };
 
-// Whether the components of the cases are kept or refused as they say.
+// Whether the components of the cases are kept or refused as they say. `judges` asks a protection likewise: only the call differs.
 fn checks(options: Options, cases: &[Case]) -> bool {
     cases.iter().all(|case| {
         let refusal = component(case.input, case.mode, options).err();

@@ -16,7 +16,7 @@ use path::{Mode, Options};
 
 /// The answer of a check of names: the number of the refusal and its value, the invalid byte for 1 and else 0. Both are 0 for
 /// an allowed name. The name that 13 carries is the whole input.
-// C reads the two answers, so they are numbers.
+// C reads this and the answer of the mender, so their fields are numbers.
 #[repr(C)]
 #[derive(Clone, Copy, Debug, PartialEq, Eq)]
 pub struct NameAnswer {
@@ -33,7 +33,7 @@ pub struct MendAnswer {
 }
 
 /// The numbers of what a check of names answers.
-// A refusal of a rulebook splits an error likewise, but holds the value as a place: only the byte of 1 is the same.
+// A refusal of a rulebook splits an error likewise, but has its value as a `usize`, which may also be an index.
 impl From<Result<&[u8], reference::Error<'_>>> for NameAnswer {
     ghost from_gives = { λ res r. (r.number ≡ number_of (answer_of res)) × (r.value ≡ value_of (answer_of res)) };
 
@@ -43,13 +43,13 @@ impl From<Result<&[u8], reference::Error<'_>>> for NameAnswer {
                 number: 0,
                 value: 0,
             },
-            Err(reference::Error::InvalidByte(byte)) => NameAnswer {
-                number: 1,
-                value: u32::from(byte),
-            },
             Err(error) => NameAnswer {
                 number: u32::from(error.number()),
-                value: 0,
+                // Of all the values C reads the invalid byte alone.
+                value: match error {
+                    reference::Error::InvalidByte(byte) => u32::from(byte),
+                    _ => 0,
+                },
             },
         }
     }
@@ -97,8 +97,8 @@ pub extern "C" fn gushteral_reference_branch_name(input: &[u8]) -> NameAnswer
 }
 
 /// The check of tag names, with its error as that of a reference name.
-// A `From` for each error that goes `Into` this one was tried: its clause says that there is an error that it goes into, and is
-// longer than this function.
+// A `From` for each error that goes `Into` this one was tried: its clause has to name the error that comes of the conversion,
+// and is longer than this function.
 fn tag_name(input: &[u8]) -> Result<&[u8], reference::Error<'_>>
     ensures { answer_of result ≡ tag_name input.now }
 {
@@ -134,7 +134,7 @@ fn mode(link: u8) -> Option<Mode>
 }
 
 /// Whether a component is allowed under the protections that are on: a flag is off at 0 and on at any other number.
-// C passes the settings, so each is a number of its own.
+// C passes the settings and reads the answer, so each is a number.
 #[unsafe(no_mangle)]
 pub extern "C" fn gushteral_path_component(
     input: &[u8],

@@ -3,7 +3,8 @@
 
 use std::io::{Read, Write};
 
-// `listing_io` reads and writes too, but stops at a length and gives another report: only the last line is the same.
+// `listing_io` reads up to a length and writes another report: a function for both would take both from its caller, and be no
+// shorter.
 fn main(rt: HostRuntime) -> anyhow::Result<()> {
     let mut input = Vec::new(rt.alloc());
     rt.stdin().read_to_end(&mut input)?;

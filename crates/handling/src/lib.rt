@@ -10,8 +10,8 @@ use lines::Lines;
 use std::alloc::{AllocError, Global};
 
 /// The handle that a text is mended to.
-// The mender writes to a buffer of bytes and answers a length, a fixed form of the calls that C makes (docs/DECISIONS.md): so the
-// length is cut to here.
+// The mender writes to a caller's buffer and answers a length, a fixed form (docs/DECISIONS.md): so the vector is cut to that
+// length here.
 pub fn handle(heap: Global, text: &[u8]) -> Result<Vec<u8>, AllocError>
     ensures { IfOk result (λ v. v.items ≡ mended text.now) }
 {
@@ -57,7 +57,7 @@ impl Draft {
         self.bytes.extend_from_slice(words.as_bytes())?;
         self.bytes.extend_from_slice(bytes)?;
         self.bytes.push(b'\n')?;
-        // Counted where the line is added, here and for a text that is kept.
+        // Counted here, since a count of its own would go through the lines, and check each text, once more.
         self.lines += 1;
         Ok(())
     }

@@ -25,7 +25,7 @@ pub mod reports;
 /// The most bytes of input that are read.
 pub const LONGEST_INPUT: usize = 16384;
 
-// The heap stands beside an input where what is answered is allocated.
+// The heap and the input are no one value: what is answered is allocated by the one, and read off the other.
 /// The calls among the lines of an input.
 fn read_calls<'a>(heap: Global, input: &'a [u8]) -> Result<Vec<Call<'a>>, AllocError>
     ensures { IfOk result (λ v. map call_of v.items ≡ calls_in (lines_of input.now)) }
@@ -52,6 +52,7 @@ pub fn list<R: MendingRulebook, F: FileSystem>(
     ensures offers { OnOk result (OffersHold (mending_meaning_in R.Rulebook R.MendingRulebook.mended F.FileSystem register.old) (entries_in register.old) input.now) }
 {
     let calls = read_calls(heap, input)?;
+    // `perform` takes no memory, and writes the answers into room that it is given.
     let mut results: Vec<Answer> = vec![in heap; Ok(0); calls.len()]?;
     perform(register, calls.as_slice(), results.as_mut_slice());
     write_report(heap, input, results.as_slice(), register)

@@ -16,7 +16,7 @@ fn read_number(digits: &[u8]) -> Option<u32>
     if !(1..=9).contains(&digits.len()) {
         return None;
     }
-    // With `try_fold` both parts of the step would stand in a closure with the `?` of its own, which is no plainer.
+    // With `try_fold` the bound by which the sum does not overflow would have to be a contract of a closure, which is no plainer.
     let mut number = 0;
     for digit in digits {
         number = number * 10 + char::from(*digit).to_digit(10)?;
@@ -33,7 +33,7 @@ fn number_before(text: &[u8]) -> Option<(u32, &[u8])>
 }
 
 /// The call of a line `e NUMBER NAME`, from what stands after its first space.
-// Each kind of line has a function, so that `read_line` shows a kind in a line.
+// This and `read_offer` differ in the call that they make, which is the last expression of each.
 fn read_enter(rest: &[u8]) -> Option<Call<'_>>
     ensures { option_map call_of result ≡ option_map an_enter (number_before rest.now) }
 {

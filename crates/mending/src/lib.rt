@@ -11,13 +11,13 @@ use tag::components::Components;
 use tag::scanner::Scanner;
 use text::Text;
 
-pub mod display;
 mod text;
 
 /// Why a text is not mended.
-#[derive(Clone, Copy, Debug, PartialEq, Eq)]
+#[derive(Clone, Copy, Debug, PartialEq, Eq, thiserror::Error)]
 pub enum Error {
     /// The buffer is shorter than the input, or has no byte.
+    #[error("the buffer must have as many bytes as the text, and at least one")]
     BufferTooShort = 31,
 }
 
@@ -64,6 +64,7 @@ pub fn mend(input: &[u8], out: &mut [u8]) -> Result<usize, Error>
     ensures buffer { out.new ≡ buffer_after input.now out.old }
 {
     let needed = input.len().max(1);
+    // With `get_mut` and `ok_or` the proof of what the whole buffer holds did not close.
     if out.len() < needed {
         return Err(Error::BufferTooShort);
     }

@@ -17,7 +17,8 @@ use protections::{
 use std::fmt;
 
 /// Why a component is refused.
-// Six cases are those of a verdict: an enum for both would let a verdict say that the name is empty or relative.
+// The error keeps the ported crate's case names, a fixed form (docs/DECISIONS.md), so it has the six cases of a verdict and no case
+// that holds one. An enum for both would let a verdict say that the name is empty or relative.
 #[derive(Clone, Copy, PartialEq, Eq, Debug)]
 pub enum Error {
     Empty = 21,

@@ -48,6 +48,7 @@ impl Keyed for Hfs {
 fn begins_with_dot(component: &[u8]) -> bool
     ensures { result ≡ (slice_index (hfs_key component.now) 0 == 46) }
 {
+    // Not by a `Cursor`: the borrow checker does not cover one whose protection is named and has its key by one of several impls.
     let mut rest = component;
     Hfs.advance(&mut rest) == Some(0x2E)
 }

@@ -16,7 +16,7 @@ pub trait Keyed {
     // The numbers that are still to come when so much is left.
     ghost remaining: { Self → List ℕ → List ℕ };
 
-    // Most impls give the whole component. A default body would need a law that `key` and `remaining` are one in these.
+    // Most impls give the whole component. A default body would need a law that `key` and `remaining` are the same there.
     /// The part of the component that the key is read from.
     fn start<'a>(&self, component: &'a [u8]) -> &'a [u8]
         ensures { remaining self.now result.now ≡ key self.now component.now };

@@ -9,7 +9,7 @@ ghost use Rattle.std.proofs.Common.{arith};
 ghost use Rattle.std.proofs.lemmas.Bool.Decides.{nat_tests};
 
 use crate::cut_names::Cut;
-use crate::cuts::{one_of, take_small, up_to, without_end};
+use crate::cuts::{take_small, up_to, without_end};
 use crate::keys::{Keyed, named};
 use crate::rules::{Mode, Protection, Verdict, git_verdict, is_link};
 use crate::small_letters::Lowered;
@@ -57,11 +57,11 @@ impl Cut for Ntfs {
     ghost filled = { λ b. Prim.grind (arith, nat_tests) };
 
     fn is_stop(&self, byte: u8) -> bool {
-        one_of(byte, b":")
+        byte == b':'
     }
 
     fn is_filler(&self, byte: u8) -> bool {
-        one_of(byte, b" .")
+        matches!(byte, b' ' | b'.')
     }
 }
 

@@ -10,7 +10,6 @@ ghost use Rattle.std.proofs.lemmas.Bool.Decides.{nat_tests};
 
 use crate::bytes_as_they_are::ByBytes;
 use crate::cut_names::Cut;
-use crate::cuts::one_of;
 use crate::keys::Keyed;
 use crate::rules::{Mode, Protection, Verdict};
 
@@ -32,11 +31,11 @@ impl Cut for WindowsDevices {
     ghost filled = { λ b. Prim.grind (arith, nat_tests) };
 
     fn is_stop(&self, byte: u8) -> bool {
-        one_of(byte, b".:")
+        matches!(byte, b'.' | b':')
     }
 
     fn is_filler(&self, byte: u8) -> bool {
-        one_of(byte, b" ")
+        byte == b' '
     }
 }
 
@@ -90,12 +89,14 @@ pub fn names_device(component: &[u8]) -> bool
     past_device(letters, rest).is_some_and(|tail| WindowsDevices.only_fillers(tail))
 }
 
-// Whether the byte is below 0x20 or one of the marks that Windows does not allow. The `|` asks both, so that the loop
-// over a component reads many bytes at a time.
+// Whether the byte is below 0x20 or one of the marks that Windows does not allow.
 fn is_illegal(byte: u8) -> bool
     ensures { result ≡ illegal byte }
 {
-    (byte < 0x20) | one_of(byte, b":<>\"|?*")
+    matches!(
+        byte,
+        0..=0x1f | b':' | b'<' | b'>' | b'"' | b'|' | b'?' | b'*'
+    )
 }
 
 // Whether a byte anywhere is not allowed. A `for` over the bytes is a fixed form, docs/DECISIONS.md, and the loop has no

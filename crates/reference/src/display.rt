@@ -2,7 +2,7 @@
 use super::Error;
 use std::fmt;
 
-// A text for each case, which no derive has.
+// The texts of eleven cases stand once, in tag: a derive would repeat them.
 impl fmt::Display for Error<'_> {
     fn fmt<W: fmt::Write>(&self, f: &mut fmt::Formatter<W>) -> fmt::Result {
         match self {

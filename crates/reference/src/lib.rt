@@ -31,7 +31,8 @@ pub enum Error<'a> {
     Reserved(&'a [u8]),
 }
 
-// The cases of both enums are public, so this and `tag_error` list their pairs, each in one direction.
+// The errors keep the ported crate's case names, a fixed form (docs/DECISIONS.md), so eleven cases stand in both enums. This and
+// `tag_error` list their pairs, each in one direction.
 impl<'a> From<tag::Error> for Error<'a> {
     ghost from_gives = { λ e r. r ≡ from_tag e };
 

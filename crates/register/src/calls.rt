@@ -37,7 +37,7 @@ impl<R: Rulebook, F: FileSystem> Register<R, F> {
     {
         let kept = self.checked(name, mode)?;
         self.unmet(name, None)?;
-        // The table asks for room, since a rename has it: a `put` that answers a Result would be unwrapped there.
+        // `put` requires room, which a rename always has: a `put` that answers a Result would be unwrapped there.
         if self.table.is_full() {
             return Err(StateFault::Full.into());
         }

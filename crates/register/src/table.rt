@@ -99,6 +99,7 @@ impl Table {
     pub(crate) fn place_of(&self, name: &[u8]) -> Option<usize>
         ensures { result ≡ place_of name.now self.now }
     {
+        // By `slot`, the one search of the table: a `binary_search_by` would be another, with a proof of its own.
         let place = self.slot(name);
         let row = self.rows.get(place)?;
         (row.name.as_slice() == name).then_some(place)
@@ -129,6 +130,7 @@ impl Table {
         ensures place { result ≡ slot name.items (remove self.old from) }
         ensures entries { self.new ≡ put (renamed self.old from name.items mode) (remove self.old from) }
     {
+        // The row is lent to be changed: a fixed form, docs/DECISIONS.md.
         let row = &mut self.rows[from];
         row.name = name;
         row.mode = mode;

@@ -65,15 +65,14 @@ impl<'a> From<reference::Error<'a>> for Refusal {
     ghost from_gives = { λ e r. ruling_in r ≡ ruling (reference_errors.refusal e) };
 
     fn from(error: reference::Error<'a>) -> Refusal {
-        match error {
-            reference::Error::InvalidByte(byte) => Refusal {
-                number: 1,
-                value: usize::from(byte),
-            },
-            _ => Refusal {
-                number: error.number(),
-                value: 0,
-            },
+        // Of all the values a refusal of a rulebook has the invalid byte alone.
+        let value = match error {
+            reference::Error::InvalidByte(byte) => usize::from(byte),
+            _ => 0,
+        };
+        Refusal {
+            number: error.number(),
+            value,
         }
     }
 }

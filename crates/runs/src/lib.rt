@@ -89,7 +89,7 @@ impl<'a, R: Rulebook, F: FileSystem> Request<R, F> for Change<'a> {
         }
     }
 
-    // One word, here and in the other impl: a register's meaning is read of its rules and files alone.
+    // One word, here and in the other impl: a register's meaning is read off its rules and files alone.
     ghost same_meaning = { λ r s same. Prim.cc };
 
     ghost lawful = { λ r. laws_kept R.filled (F.symmetric r.files) (F.keyed r.files) };

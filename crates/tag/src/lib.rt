@@ -11,23 +11,33 @@ ghost use Rattle.tag.specs.Names.{closing, opening, reads, tag_name};
 use scanner::Scanner;
 
 pub mod components;
-pub mod display;
 pub mod scanner;
 pub mod splits;
 
 /// Why a tag name is refused. The cases keep the numbers 1 to 11, in this order.
-#[derive(Clone, Copy, Debug, PartialEq, Eq)]
+#[derive(Clone, Copy, Debug, PartialEq, Eq, thiserror::Error)]
 pub enum Error {
+    #[error("the byte 0x{0:02x} may not stand in a name")]
     InvalidByte(u8),
+    #[error("a name may not start with a slash")]
     StartsWithSlash,
+    #[error("a name may not have two slashes in a row")]
     RepeatedSlash,
+    #[error("a name may not have two dots in a row")]
     RepeatedDot,
+    #[error("no part of a name may end in .lock")]
     LockFileSuffix,
+    #[error("a name may not have an at sign before an opening brace")]
     ReflogPortion,
+    #[error("a name may not have an asterisk")]
     Asterisk,
+    #[error("no part of a name may start with a dot")]
     StartsWithDot,
+    #[error("a name may not end with a dot")]
     EndsWithDot,
+    #[error("a name may not end with a slash")]
     EndsWithSlash,
+    #[error("a name may not be empty")]
     Empty,
 }
 

@@ -32,6 +32,7 @@ impl Default for Options {
 }
 
 /// The error of an answer: none where the name is allowed.
+#[inline]
 fn tag_error(answer: raw::NameAnswer) -> Option<TagError> {
     Some(match answer.number {
         0 => return None,
@@ -51,6 +52,7 @@ fn tag_error(answer: raw::NameAnswer) -> Option<TagError> {
 }
 
 /// The result of a check of reference names on `input`.
+#[inline]
 fn reference_check(check: raw::NameCheck, input: &[u8]) -> Result<&[u8], ReferenceError<'_>> {
     // SAFETY: the pointer of a slice is not null and is good for its length; the library keeps neither.
     let answer = unsafe { check(input.as_ptr(), input.len()) };
@@ -62,6 +64,7 @@ fn reference_check(check: raw::NameCheck, input: &[u8]) -> Result<&[u8], Referen
 }
 
 /// The input itself, if it is a tag name.
+#[inline]
 pub fn tag_name(input: &[u8]) -> Result<&[u8], TagError> {
     // SAFETY: the pointer of a slice is not null and is good for its length; the library keeps neither.
     let answer = unsafe { raw::gushteral_tag_name(input.as_ptr(), input.len()) };
@@ -69,16 +72,19 @@ pub fn tag_name(input: &[u8]) -> Result<&[u8], TagError> {
 }
 
 /// The input itself, if it is a partial reference name such as `main` or `heads/main`.
+#[inline]
 pub fn reference_name_partial(input: &[u8]) -> Result<&[u8], ReferenceError<'_>> {
     reference_check(raw::gushteral_reference_name_partial, input)
 }
 
 /// The input itself, if it is a complete reference name such as `HEAD` or `refs/heads/main`.
+#[inline]
 pub fn reference_name(input: &[u8]) -> Result<&[u8], ReferenceError<'_>> {
     reference_check(raw::gushteral_reference_name, input)
 }
 
 /// The input itself, if it is a complete reference name that a branch may have.
+#[inline]
 pub fn reference_branch_name(input: &[u8]) -> Result<&[u8], ReferenceError<'_>> {
     reference_check(raw::gushteral_reference_branch_name, input)
 }
@@ -87,6 +93,7 @@ pub fn reference_branch_name(input: &[u8]) -> Result<&[u8], ReferenceError<'_>> 
 ///
 /// The bytes of `buf` after it become zero up to the larger of 1 and the input's length, and later ones stay. Where
 /// `buf` is shorter than that, the call is refused and all of `buf` stays.
+#[inline]
 pub fn reference_name_partial_or_sanitize<'b>(input: &[u8], buf: &'b mut [u8]) -> Result<&'b mut [u8], BufferTooShort> {
     // SAFETY: the pointers of slices are not null and are good for their lengths, and a mutable one overlaps no other.
     let answer = unsafe {
@@ -99,6 +106,7 @@ pub fn reference_name_partial_or_sanitize<'b>(input: &[u8], buf: &'b mut [u8]) -
 }
 
 /// The input itself, if it may be a component of a path in a tree under the protections that are on.
+#[inline]
 pub fn path_component(input: &[u8], mode: Option<Mode>, options: Options) -> Result<&[u8], ComponentError> {
     let link = mode == Some(Mode::Symlink);
     // SAFETY: the pointer of a slice is not null and is good for its length; the library keeps neither.
@@ -127,6 +135,7 @@ pub fn path_component(input: &[u8], mode: Option<Mode>, options: Options) -> Res
 }
 
 /// Whether Windows takes the component for a device, such as `CON` or `lpt1.txt`.
+#[inline]
 pub fn path_component_is_windows_device(input: &[u8]) -> bool {
     // SAFETY: the pointer of a slice is not null and is good for its length; the library keeps neither.
     unsafe { raw::gushteral_path_component_is_windows_device(input.as_ptr(), input.len()) != 0 }

@@ -24,7 +24,7 @@ impl DeclaredBottom {
         ensures unaltered { OnErr result (self.new ≡ self.old) }
         ensures within { Within self.new }
     {
-        // Borrowed before `?` returns: so the check finds alone that the list keeps its bounds there.
+        // Borrowed before `?` may return: so the check finds alone that the list is as it was then.
         let pairs = &mut self.pairs;
         let pair = Pair::new(left, right)?;
         pairs.try_push(pair).map_err(|_| DeclareError::TooManyPairs)

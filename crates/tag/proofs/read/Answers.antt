@@ -6,7 +6,6 @@ use Rattle.tag.specs.Answers.Answer.{allowed}
 use Rattle.tag.specs.Bytes.{last_byte, ends_in_lock}
 use Rattle.tag.specs.Names.{pair, reads}
 use Rattle.tag.specs.Scanning.{after}
-use Rattle.tag.specs.declared.scanner.Scanner.TheVariants.{AfterSlash}
 use Rattle.tag.proofs.Reading.{after_slash, slash_after, reads_pair, reads_on, reads_lock, last_byte_more}
 use Rattle.tag.proofs.read.Goals as goal
 use Rattle.tag.proofs.read.Goals.{in-AfterSlash, in_default, else-matches-via-then-matches+else-ends_in_lock, else-matches-via-else-matches}
