@@ -1,0 +1,4 @@
+-- The lemmas on samples.
+pub mod Names
+pub mod Components
+pub mod Registers

@@ -1,0 +1,2 @@
+-- The definitions that the contract of the samples cites.
+pub mod Samples
