@@ -9,3 +9,4 @@ pub mod Refusals
 pub mod Claims
 pub mod Firsts
 pub mod Performing
+pub mod Places

@@ -1,6 +1,7 @@
 -- The first line of a text.
-use Rattle.std.proofs.Common.{◌≡◌, ℕ, zero, suc, ◌+◌, ◌<◌, not, eqb, List, [], ◌∷◌, length, get_or, take, drop, Some, None, Option, sym, refl, ap, subst, add-one, arith}
-use Rattle.std.specs.List.{position, prefix_len}
+use Rattle.std.proofs.Common.{◌≡◌, ℕ, zero, suc, ◌+◌, ◌<◌, ◌≤◌, Bool, true, false, cond, not, eqb, List, [], ◌∷◌, length, get_or, take, drop, Some, None, Option, sym, refl, ap, subst, add-one, arith}
+use Rattle.std.specs.List.{position, position_or_len, before_first, after_first, prefix_len}
+use Rattle.std.proofs.lemmas.List.{take_all, drop_all}
 use Rattle.std.proofs.lemmas.List.Sums.{prefix_len_passes}
 use Rattle.std.proofs.lemmas.Grind.{common_steps}
 use Rattle.std.proofs.lemmas.Bool.{eq-eqb, eqb-true, eqb-false, ne_eqb}
@@ -55,3 +56,21 @@ lines-uncut s some e = uncut (position (λ b. eqb b 10) s) refl e
         let other = prefix_len_passes (λ b. not (eqb b 10)) s k 0 within in
         let end = eq-eqb _ 10 t in
         grind arith)
+
+-- What a cut at place n gives, where that place is in the text (t).
+parts_at : (s : List ℕ) (p : List ℕ × List ℕ) (n : ℕ) (t : Bool) → option_map {U = List ℕ × List ℕ} (λ i. (take i s, drop (i + 1) s)) (cond t (Some n) None) ≡ Some p
+    → (p.0 ≡ take n s) × (p.1 ≡ drop (n + 1) s)
+parts_at s p n true e = let q = ap (λ o. unwrap_or o p) e in (sym (ap (λ t. t.0) q), sym (ap (λ t. t.1) q))
+parts_at s p n false e = absurd (none-some _ e)
+
+-- Where a text is cut at its first byte 10, the parts are what stands before and after that byte.
+pub parts-cut : (s : List ℕ) (p : List ℕ × List ℕ) → split_once 10 s ≡ Some p
+    → (p.0 ≡ before_first (λ b. eqb b 10) s) × (p.1 ≡ after_first (λ b. eqb b 10) s)
+parts-cut s p e = parts_at s p (position_or_len (λ b. eqb b 10) s) _ e
+
+-- A text that is not cut stands before, and nothing after.
+pub parts-uncut : (s : List ℕ) → split_once 10 s ≡ None
+    → (s ≡ before_first (λ b. eqb b 10) s) × ([] ≡ after_first (λ b. eqb b 10) s)
+parts-uncut s e =
+    let far : length s ≤ position_or_len (λ b. eqb b 10) s = grind (arith, common_steps) in
+    (sym (take_all _ s far), sym (drop_all _ s (omega arith)))

@@ -1,2 +1,3 @@
 -- The lemmas on lines.
 pub mod FirstLine
+pub mod Law

@@ -1,15 +1,17 @@
 //! The lines of a text, one after another.
 #![tactic(auto)]
 
-ghost use Rattle.std.specs.Prelude.{◌≡◌, ◌<◌, [], ◌∷◌, length, MatchOption};
+ghost use Rattle.std.specs.Prelude.{◌≡◌, ◌==◌, ◌<◌, [], ◌∷◌, length, MatchOption};
 ghost use Rattle.std.specs.Iterator.{YieldsFirstRef, item_count};
+ghost use Rattle.std.specs.List.{after_first, before_first};
 ghost use Rattle.lines.specs.Left.{lines_left};
-ghost use Rattle.lines.specs.Lines.{lines};
+ghost use Rattle.lines.specs.Lines.{Lined, lines};
 
 use tag::splits::split_once;
 
 /// The first line of a text, and what comes after the byte that ends it; none if there are no bytes.
 pub fn next_line(text: &[u8]) -> Option<(&[u8], &[u8])>
+    ensures parts { MatchOption result (text.now ≡ []) (λ p. (p.0.now ≡ before_first (λ b. b == 10) text.now) × (p.1.now ≡ after_first (λ b. b == 10) text.now)) }
     ensures splits { MatchOption result (text.now ≡ []) (λ p. lines text.now ≡ p.0.now ∷ lines p.1.now) }
     ensures shorter { MatchOption result (text.now ≡ []) (λ p. length p.1.now < length text.now) }
 {
@@ -29,7 +31,8 @@ pub struct Lines<'a> {
 impl<'a> Lines<'a> {
     /// The lines of `text`.
     pub fn of(text: &'a [u8]) -> Lines<'a>
-        ensures { lines_left result ≡ lines text.now }
+        ensures left { lines_left result ≡ lines text.now }
+        ensures law { Lined text.now (lines text.now) }
     {
         Lines { rest: text }
     }

@@ -1,13 +1,13 @@
 //! The listing of a register: which call each line of an input is, and the report of the answers and the kept names.
 #![tactic(auto)]
 
-ghost use Rattle.std.specs.Prelude.{◌≡◌, ◌≤◌, [], map, length, IfOk, OnOk};
+ghost use Rattle.std.specs.Prelude.{◌≡◌, ◌≤◌, ◌⊎◌, [], map, length, IfOk, OnErr, OnOk};
 ghost use Rattle.lines.specs.Lines.{lines as lines_of};
 ghost use Rattle.register.specs.Meanings.{mending_meaning_in};
-ghost use Rattle.register.specs.Registers.{entries_in};
+ghost use Rattle.register.specs.Registers.{SameRules, entries_in};
 ghost use Rattle.runs.specs.Campus.{campus};
 ghost use Rattle.runs.specs.Listed.{call_of};
-ghost use Rattle.listing.specs.Report.{ClaimHolds, OffersHold, calls_in, report_from, report_of, too_long};
+ghost use Rattle.listing.specs.Report.{ClaimHolds, OffersHold, calls_in, left_by, report_from, report_of, too_long};
 
 use filesystems::{FileSystem, mac_and_windows};
 use lines::Lines;
@@ -50,6 +50,9 @@ pub fn list<R: MendingRulebook, F: FileSystem>(
     ensures report { IfOk result (λ v. v.items ≡ report_from (mending_meaning_in R.Rulebook R.MendingRulebook.mended F.FileSystem register.old) (entries_in register.old) input.now) }
     ensures claim { OnOk result (entries_in register.old ≡ [] → ClaimHolds (mending_meaning_in R.Rulebook R.MendingRulebook.mended F.FileSystem register.old) (entries_in register.old) input.now) }
     ensures offers { OnOk result (OffersHold (mending_meaning_in R.Rulebook R.MendingRulebook.mended F.FileSystem register.old) (entries_in register.old) input.now) }
+    ensures left { OnOk result (entries_in register.new ≡ left_by (mending_meaning_in R.Rulebook R.MendingRulebook.mended F.FileSystem register.old) (entries_in register.old) input.now) }
+    ensures failed { OnErr result ((entries_in register.new ≡ entries_in register.old) ⊎ (entries_in register.new ≡ left_by (mending_meaning_in R.Rulebook R.MendingRulebook.mended F.FileSystem register.old) (entries_in register.old) input.now)) }
+    ensures same_rules { SameRules register.old register.new }
 {
     let calls = read_calls(heap, input)?;
     // `perform` takes no memory, and writes the answers into room that it is given.

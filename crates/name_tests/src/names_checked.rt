@@ -127,19 +127,41 @@ fn buffers(rt: HostRuntime) {
 
 #[test]
 fn words_of_errors(rt: HostRuntime) -> Result<(), Fail> {
-    let heap = rt.alloc();
-    let byte = format!(in heap; "{}", Error::InvalidByte(b' '))?;
-    assert_eq!(rt; byte.as_str(), "the byte 0x20 may not stand in a name");
-    let dot = format!(in heap; "{}", Error::StartsWithDot)?;
-    assert_eq!(rt; dot.as_str(), "no part of a name may start with a dot");
-    let lower = format!(in heap; "{}", Error::SomeLowercase)?;
-    assert_eq!(rt;
-        lower.as_str(),
-        "a name with no slash must be of capital letters and underscores, like HEAD"
-    );
-    let reserved = format!(in heap; "{}", Error::Reserved(b"@"))?;
-    assert_eq!(rt; reserved.as_str(), "this name is reserved");
-    let short = format!(in heap; "{}", mending::Error::BufferTooShort)?;
+    let words: [(Error<'static>, &'static str); 13] = [
+        (
+            Error::InvalidByte(b' '),
+            "the byte 0x20 may not stand in a name",
+        ),
+        (Error::StartsWithSlash, "a name may not start with a slash"),
+        (
+            Error::RepeatedSlash,
+            "a name may not have two slashes in a row",
+        ),
+        (Error::RepeatedDot, "a name may not have two dots in a row"),
+        (Error::LockFileSuffix, "no part of a name may end in .lock"),
+        (
+            Error::ReflogPortion,
+            "a name may not have an at sign before an opening brace",
+        ),
+        (Error::Asterisk, "a name may not have an asterisk"),
+        (
+            Error::StartsWithDot,
+            "no part of a name may start with a dot",
+        ),
+        (Error::EndsWithDot, "a name may not end with a dot"),
+        (Error::EndsWithSlash, "a name may not end with a slash"),
+        (Error::Empty, "a name may not be empty"),
+        (
+            Error::SomeLowercase,
+            "a name with no slash must be of capital letters and underscores, like HEAD",
+        ),
+        (Error::Reserved(b"@"), "this name is reserved"),
+    ];
+    for (error, text) in &words {
+        let written = format!(in rt.alloc(); "{error}")?;
+        assert_eq!(rt; written.as_str(), *text);
+    }
+    let short = format!(in rt.alloc(); "{}", mending::Error::BufferTooShort)?;
     assert_eq!(rt;
         short.as_str(),
         "the buffer must have as many bytes as the text, and at least one"

@@ -1,14 +1,14 @@
 -- The key by a cut, told from the front of a component.
-use Rattle.std.proofs.Common.{Option, min, ◌≡◌, ℕ, suc, ◌+◌, ◌-◌, ◌<◌, Bool, true, false, cond, not, ◌&&◌, eqb, ◌⊎◌, List, [], ◌∷◌, ◌++◌, reverse, length, take, drop, sym, refl, ap, ◌∙◌, inl, inr, one-add, arith}
+use Rattle.std.proofs.Common.{Bor, Some, None, Option, min, nat_le, ◌≡◌, ℕ, suc, ◌+◌, ◌-◌, ◌<◌, Bool, true, false, cond, not, ◌&&◌, eqb, ◌⊎◌, List, [], ◌∷◌, ◌++◌, reverse, length, take, drop, sym, refl, ap, ◌∙◌, inl, inr, one-add, arith}
 use Rattle.std.specs.Char.{to_ascii_lowercase}
 use Rattle.std.specs.Cmp.Lexicographic.{unequal}
-use Rattle.std.specs.List.{prefix_len, suffix_len, find}
-use Rattle.std.specs.Option.{option_map_or}
-use Rattle.std.proofs.lemmas.List.{length-map, length-take, length-reverse, reverse-append}
+use Rattle.std.specs.List.{prefix_len, suffix_len, list_all, find}
+use Rattle.std.specs.Option.{option_map, option_map_or, unwrap_or}
+use Rattle.std.proofs.lemmas.List.{length-map, length-take, length-drop, length-reverse, reverse-append, take-append-drop}
 use Rattle.std.proofs.lemmas.List.Sums.{suffix_len-le-length}
-use Rattle.std.proofs.lemmas.Bool.{eqb-true, eqb-false, ne_eqb, and_parts, and_right, not-true, true≢false}
+use Rattle.std.proofs.lemmas.Bool.{leb-true, eqb-true, eqb-false, ne_eqb, and_parts, and_right, not-true, true≢false}
 use Rattle.protections.specs.Words.{equals, among}
-use Rattle.protections.specs.Keys.{lowered, before, trimmed, cut_key, cut_name}
+use Rattle.protections.specs.Keys.{lowered, before, trimmed, cut_key, cut_name, without_block}
 
 -- how many pass from the end back, with one more element in front
 
@@ -143,6 +143,29 @@ module _ (stops fillers : List ℕ) where
   only_fillers_by first = option_map_or (among stops) first true
 
   module _ (apart : (b : ℕ) → among fillers b ≡ true → among stops b ≡ false) where
+    all_fill : (u t : List ℕ) → list_all (among fillers) u ≡ true → equals (cut_key stops fillers (u ++ t)) [] ≡ equals (cut_key stops fillers t) []
+    all_fill [] t h = refl
+    all_fill (b ∷ u) t h =
+        let both = and_parts (among fillers b) (list_all (among fillers) u) h in
+        rest_filler b (u ++ t) (apart b both.0) both.0 ∙ all_fill u t both.1
+
+    -- a block of fillers may be passed over
+    pub rest_block : (n : ℕ) (s t : List ℕ) → Some t ≡ without_block fillers n s → equals (cut_key stops fillers t) [] ≡ equals (cut_key stops fillers s) []
+    rest_block n s t h = go (nat_le n (length s)) (list_all (among fillers) (take n s)) refl h
+      where
+        go : (x y : Bool) → list_all (among fillers) (take n s) ≡ y → Some t ≡ cond (x && y) (Some (drop n s)) None →
+            equals (cut_key stops fillers t) [] ≡ equals (cut_key stops fillers s) []
+        go true true e f =
+            let same : t ≡ drop n s = cc in
+            rw same (sym (all_fill (take n s) (drop n s) e) ∙ ap (λ u. equals (cut_key stops fillers u) []) (take-append-drop n s))
+        go true false e f = let z : ◌≡◌ {A = ℕ} 0 1 = cc in let w : ⊥ = omega arith in absurd w
+        go false y e f = let z : ◌≡◌ {A = ℕ} 0 1 = cc in let w : ⊥ = omega arith in absurd w
+
+    pub rest_blocks : (n : ℕ) (d : Bor (List ℕ)) (r : Option (Bor (List ℕ))) → option_map (λ x. x.now) r ≡ without_block fillers n d.now →
+        equals (cut_key stops fillers (unwrap_or r d).now) [] ≡ equals (cut_key stops fillers d.now) []
+    rest_blocks n d None h = refl
+    rest_blocks n d (Some t) h = rest_block n d.now t.now h
+
     pub rest_first : (s : List ℕ) → only_fillers_by (find (λ b. not (among fillers b)) s) ≡ equals (cut_key stops fillers s) []
     rest_first [] = sym (rw key_nil)
     rest_first (b ∷ t) = go (among fillers b) refl (rest_first t)
@@ -151,6 +174,17 @@ module _ (stops fillers : List ℕ) where
             only_fillers_by (find (λ b. not (among fillers b)) (b ∷ t)) ≡ equals (cut_key stops fillers (b ∷ t)) []
         go true e f = rw e (f ∙ sym (rest_filler b t (apart b e) e))
         go false e f = rw e (sym (rest_other b t e))
+
+  pub block_length : (n : ℕ) (s t : List ℕ) → Some t ≡ without_block fillers n s → length t + n ≡ length s
+  block_length n s t h = go (nat_le n (length s)) refl (list_all (among fillers) (take n s)) h
+    where
+      go : (x : Bool) → nat_le n (length s) ≡ x → (y : Bool) → Some t ≡ cond (x && y) (Some (drop n s)) None → length t + n ≡ length s
+      go true e true f =
+          let same : t ≡ drop n s = cc in
+          let less = leb-true n (length s) e in
+          rw same (simp length-drop (omega arith))
+      go true e false f = let z : ◌≡◌ {A = ℕ} 0 1 = cc in let w : ⊥ = omega arith in absurd w
+      go false e y f = let z : ◌≡◌ {A = ℕ} 0 1 = cc in let w : ⊥ = omega arith in absurd w
 
   -- a name, byte by byte
 

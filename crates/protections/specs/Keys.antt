@@ -1,8 +1,8 @@
 -- The keys of the five protections: lists of numbers by which components are compared.
-use Rattle.std.specs.Prelude.{ℕ, ◌-◌, Bool, true, false, not, ◌&&◌, ◌||◌, List, [], ◌∷◌, map, length, take, codes, filter, Option, ◌==◌, nat_le, nat_lt}
+use Rattle.std.specs.Prelude.{ℕ, ◌-◌, Bool, true, false, cond, not, ◌&&◌, ◌||◌, List, [], ◌∷◌, map, length, take, drop, Some, None, codes, filter, Option, ◌==◌, nat_le, nat_lt}
 use Rattle.std.specs.Borrow.{Bor}
 use Rattle.std.specs.Char.{to_ascii_lowercase}
-use Rattle.std.specs.List.{suffix_len, take_while}
+use Rattle.std.specs.List.{suffix_len, take_while, list_all}
 use Rattle.std.specs.Option.{option_map_or}
 use Rattle.characters.specs.Reader.{code_points}
 use Rattle.protections.specs.Words.{equals, among}
@@ -32,6 +32,10 @@ cut_name stops fillers (x ∷ y ∷ w) = not (among stops x) && cut_name stops f
 -- what is left of a component, if anything, is nothing that counts
 abbrev pub ended : List ℕ → List ℕ → Option (Bor (List ℕ)) → Bool
 ended stops fillers left = option_map_or (λ rest. equals (cut_key stops fillers rest.now) []) left false
+
+-- what is left after so many bytes, if these are fillers
+abbrev pub without_block : List ℕ → ℕ → List ℕ → Option (List ℕ)
+without_block fillers n s = cond (nat_le n (length s) && list_all (among fillers) (take n s)) (Some (drop n s)) None
 
 -- the characters that HFS+ passes over
 abbrev pub ignored : ℕ → Bool

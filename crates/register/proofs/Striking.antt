@@ -1,11 +1,12 @@
 -- An entry taken out by its name, and by its place.
-use Rattle.std.proofs.Common.{◌≡◌, ℕ, suc, ◌<◌, true, false, List, [], ◌∷◌, length, Some, None, Option, refl, ap, subst, ⊎_elim, arith}
+use Rattle.std.proofs.Common.{◌≡◌, ℕ, suc, ◌<◌, true, false, List, [], ◌∷◌, length, Some, Option, ap, subst, ⊎_elim, arith}
 use Rattle.std.specs.Option.{option_map}
 use Rattle.std.specs.Str.{bytes_eq}
 use Rattle.std.proofs.lemmas.Bool.{cases_Bool}
 use Rattle.protections.specs.declared.rules.Mode.{Mode}
 use Rattle.claims.specs.Calls.{Kept, number_at}
 use Rattle.claims.specs.Entries.{Entry, first_place, place_of, strike}
+use Rattle.claims.proofs.Places.{place_after}
 use Rattle.std.specs.List.{remove}
 use Rattle.register.specs.Entries.{number_in}
 
@@ -14,10 +15,6 @@ pub record Stands (x : List ℕ) (es : Kept) (p : ℕ) : Type 0 where
   pub struck : strike x es ≡ remove es p
   pub numbered : number_at x es ≡ number_in p es
   pub inside : p < length es
-
-place_after : (o : Option ℕ) (p : ℕ) → option_map suc o ≡ Some p → (k : ℕ) × (o ≡ Some k) × (suc k ≡ p)
-place_after None p e = cc
-place_after (Some k) p e = let s : suc k ≡ p = cc in (k, refl, s)
 
 module _ (x : List ℕ) (e : Entry (Option Mode)) (es : Kept) where
   stands_first : bytes_eq e.name x ≡ true → Stands x (e ∷ es) 0

@@ -2,6 +2,7 @@
 ghost use Rattle.std.specs.Prelude.{◌≡◌, [], OnErr};
 ghost use Rattle.claims.specs.Calls.{entering, entries_after, removing, renaming};
 ghost use Rattle.claims.specs.Calls.Call.{enter as an_enter, remove as a_remove, rename as a_rename};
+ghost use Rattle.claims.specs.Words.{PlaceOf};
 ghost use Rattle.register.specs.Faults.{outcome_of};
 ghost use Rattle.register.specs.Meanings.{meaning_in};
 ghost use Rattle.register.specs.Registers.{SameRules, entries_in};
@@ -13,7 +14,7 @@ use filesystems::FileSystem;
 use protections::Mode;
 use rulebooks::Rulebook;
 
-// The calls repeat four clauses, each of which says one fact: a definition that joined them would need four arguments.
+// The calls repeat five clauses, each of which says one fact: a definition that joined them would need five arguments.
 impl<R: Rulebook, F: FileSystem> Register<R, F> {
     /// A register with no entry.
     pub fn new(rules: R, files: F) -> Register<R, F>
@@ -32,6 +33,7 @@ impl<R: Rulebook, F: FileSystem> Register<R, F> {
     pub fn enter(&mut self, name: &[u8], number: u32, mode: Option<Mode>) -> Result<usize, Fault>
         ensures answer { outcome_of result ≡ entering (meaning_in R.Rulebook F.FileSystem self.old) (entries_in self.old) name.now mode }
         ensures entries { entries_in self.new ≡ entries_after (meaning_in R.Rulebook F.FileSystem self.old) (entries_in self.old) (an_enter name.now number mode) }
+        ensures place { PlaceOf name.now (entries_in self.new) (outcome_of result) }
         ensures same_rules { SameRules self.old self.new }
         ensures unaltered { OnErr result (self.new ≡ self.old) }
     {
@@ -53,6 +55,7 @@ impl<R: Rulebook, F: FileSystem> Register<R, F> {
     pub fn rename(&mut self, old: &[u8], new: &[u8], mode: Option<Mode>) -> Result<usize, Fault>
         ensures answer { outcome_of result ≡ renaming (meaning_in R.Rulebook F.FileSystem self.old) (entries_in self.old) old.now new.now mode }
         ensures entries { entries_in self.new ≡ entries_after (meaning_in R.Rulebook F.FileSystem self.old) (entries_in self.old) (a_rename old.now new.now mode) }
+        ensures place { PlaceOf new.now (entries_in self.new) (outcome_of result) }
         ensures same_rules { SameRules self.old self.new }
         ensures unaltered { OnErr result (self.new ≡ self.old) }
     {
@@ -66,6 +69,7 @@ impl<R: Rulebook, F: FileSystem> Register<R, F> {
     pub fn remove(&mut self, name: &[u8]) -> Result<usize, Fault>
         ensures answer { outcome_of result ≡ removing (entries_in self.old) name.now }
         ensures entries { entries_in self.new ≡ entries_after (meaning_in R.Rulebook F.FileSystem self.old) (entries_in self.old) (a_remove name.now) }
+        ensures place { PlaceOf name.now (entries_in self.old) (outcome_of result) }
         ensures same_rules { SameRules self.old self.new }
         ensures unaltered { OnErr result (self.new ≡ self.old) }
     {

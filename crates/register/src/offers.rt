@@ -2,6 +2,7 @@
 ghost use Rattle.std.specs.Prelude.{◌≡◌, OnErr};
 ghost use Rattle.claims.specs.Calls.{entries_after, offering};
 ghost use Rattle.claims.specs.Calls.Call.{offer as an_offer};
+ghost use Rattle.claims.specs.Words.{PlaceOf};
 ghost use Rattle.register.specs.Faults.{outcome_of};
 ghost use Rattle.register.specs.Meanings.{mending_meaning_in};
 ghost use Rattle.register.specs.Registers.{SameRules, entries_in};
@@ -18,6 +19,7 @@ impl<R: MendingRulebook, F: FileSystem> Register<R, F> {
     pub fn offer(&mut self, text: &[u8], number: u32) -> Result<usize, Fault>
         ensures answer { outcome_of result ≡ offering (mending_meaning_in R.Rulebook R.MendingRulebook.mended F.FileSystem self.old) (entries_in self.old) text.now }
         ensures entries { entries_in self.new ≡ entries_after (mending_meaning_in R.Rulebook R.MendingRulebook.mended F.FileSystem self.old) (entries_in self.old) (an_offer text.now number) }
+        ensures place { PlaceOf (R.MendingRulebook.mended text.now) (entries_in self.new) (outcome_of result) }
         ensures same_rules { SameRules self.old self.new }
         ensures unaltered { OnErr result (self.new ≡ self.old) }
     {

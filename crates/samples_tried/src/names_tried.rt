@@ -23,6 +23,14 @@ pub(crate) fn run(rt: &HostRuntime) -> anyhow::Result<()> {
     write_refusal(rt, "A1 as a complete name", refusal)?;
     let handle = handling::handle(rt.alloc(), b"a./")?;
     println!(rt; "a./ is mended to {}", str::from_utf8(handle.as_slice())?)?;
+    let long = [b'a'; 4000];
+    let handle = handling::handle(rt.alloc(), &long)?;
+    let report = handling::report(rt.alloc(), &long)?;
+    println!(rt;
+        "4000 bytes are mended to {}, and the report has {}",
+        handle.len(),
+        report.len()
+    )?;
     let answer = path::component(b"\xF0\x80:", None, WINDOWS_ALONE);
     let refusal = answer.err().map(|error| error.number());
     write_refusal(rt, "F0 80 3A as a component, Windows alone", refusal)

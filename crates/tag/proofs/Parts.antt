@@ -1,5 +1,5 @@
 -- The components of a name: joined by slashes they are the name, and none holds a slash.
-use Rattle.std.proofs.Common.{◌≡◌, ℕ, List, [], ◌∷◌, sym, refl, ap, ◌∙◌, subst, inl, inr, ⊎_elim}
+use Rattle.std.proofs.Common.{◌≡◌, ℕ, List, [], ◌∷◌, length, arith, sym, refl, ap, ◌∙◌, subst, inl, inr, ⊎_elim}
 use Rattle.std.proofs.lemmas.Bool.{cases_eq, eq-eqb, ne_eqb}
 use Rattle.tag.specs.Components.{components, joined, Among, Splits}
 
@@ -68,6 +68,10 @@ free_parts (other n p) c (inr m) h = free_parts p c (inr m) h
 pub slash_free : (s c : List ℕ) → Among c (components s) → Among 47 c → ⊥
 slash_free s c m h = let r = split s in free_parts r.parts c (subst (Among c) r.all m) h
 
+-- There is one at least.
+some_component : (s : List ℕ) → components s ≡ [] → ⊥
+some_component s e = let r = split s in let h = ap length (sym r.all ∙ e) in omega arith
+
 -- The components of s are what they are meant to be.
 pub components_split : (s : List ℕ) → Splits s (components s)
-components_split s = (joined_components s, slash_free s)
+components_split s = (some_component s, joined_components s, slash_free s)

@@ -22,6 +22,6 @@ abbrev pub Among : {X : Type 0} → X → List X → Type 0
 Among x [] = ⊥
 Among x (y ∷ ys) = (x ≡ y) ⊎ Among x ys
 
--- What makes these the components of s: joined they are s, and none holds a slash.
+-- What makes these the components of s: there is one at least, joined they are s, and none holds a slash.
 abbrev pub Splits : List ℕ → List (List ℕ) → Type 0
-Splits s cs = (joined cs ≡ s) × ((c : List ℕ) → Among c cs → Among 47 c → ⊥)
+Splits s cs = (cs ≡ [] → ⊥) × (joined cs ≡ s) × ((c : List ℕ) → Among c cs → Among 47 c → ⊥)

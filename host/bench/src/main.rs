@@ -186,7 +186,8 @@ fn main() {
             }
         }
     }
-    println!("\n{NOTE}\nThe port is slower by more than one part in a hundred at:\n{}", all_slower.join("\n"));
+    let slower = if all_slower.is_empty() { "- nothing".to_string() } else { all_slower.join("\n") };
+    println!("\n{NOTE}\nThe port is slower by more than one part in a hundred at:\n{slower}");
 }
 
 const NOTE: &str = "\

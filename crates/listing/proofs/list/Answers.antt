@@ -1,5 +1,6 @@
 -- Each call of the lines is made, and the report is that of their answers.
-use Rattle.std.proofs.Common.{◌≡◌, map, length, vec_len, ap, ◌∙◌, refl, arith}
+use Rattle.std.specs.Prelude.{Ok, Err, OnErr, Result}
+use Rattle.std.proofs.Common.{inr, ◌≡◌, map, length, vec_len, ap, ◌∙◌, refl, arith}
 use Rattle.std.proofs.lemmas.List.{take_at}
 use Rattle.std.proofs.lemmas.Result.{IfOk-weaker}
 use Rattle.lines.specs.Lines.{lines}
@@ -10,6 +11,11 @@ use Rattle.runs.specs.Listed.{call_of}
 use Rattle.listing.specs.Report.{report_for}
 use Rattle.listing.proofs.Performed.{all_answered, all_claimed, all_left, all_offered}
 use Rattle.listing.proofs.list.Goals as goal
+
+-- What holds holds where the result is an error.
+on_err : {T E P : Type 0} (r : Result T E) → P → OnErr r P
+on_err (Ok v) p = tt
+on_err (Err e) p = p
 
 pub returns : goal.returns
 returns g c =
@@ -35,4 +41,7 @@ returns g c =
       offers = IfOk-weaker c.write_report.result _ _
           (λ v e. all_offered call_of outcome_of m es cs A _ _ _ _ p.count room c.perform.auto.answers p.answered p.entries read (p.offers refl))
           c.write_report.ensures;
+      left = IfOk-weaker c.write_report.result _ _ (λ v e. left) c.write_report.ensures;
+      failed = on_err c.write_report.result (inr left);
+      same_rules = p.same_rules;
     }

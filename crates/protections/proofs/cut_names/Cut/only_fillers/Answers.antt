@@ -14,5 +14,6 @@ returns g c =
     tested (λ x. among g.Self.Cut.stops x.now) true c.find.result c.is_none_or.result _ c.is_none_or.ensures (λ x p. search rules)
     ∙ test_mapped (λ x. x.now) (among g.Self.Cut.stops) c.find.result true
     ∙ ap (only_fillers_by g.Self.Cut.stops g.Self.Cut.fillers)
-    (find_from_yields_List other _ _ c.find.result c.find.ensures.ran (YieldsList-from_slice c.args.bytes.now (cc)) (λ x b q k. search (rules, tests)))
-    ∙ rest_first g.Self.Cut.stops g.Self.Cut.fillers g.met.Self.Cut.apart c.args.bytes.now
+    (find_from_yields_List other _ _ c.find.result c.find.ensures.ran (YieldsList-from_slice c.past_blocks.result.now (cc)) (λ x b q k. search (rules, tests)))
+    ∙ rest_first g.Self.Cut.stops g.Self.Cut.fillers g.met.Self.Cut.apart c.past_blocks.result.now
+    ∙ c.past_blocks.ensures
