@@ -1,14 +1,13 @@
 -- What the plain protection refuses, HFS+ and NTFS refuse by the same number.
-use Rattle.std.proofs.Common.{◌≡◌, ℕ, ◌-◌, ◌<◌, Bool, true, false, cond, not, ◌&&◌, ◌⊎◌, List, [], ◌∷◌, ◌++◌, reverse, length, take, Some, None, codes, filter, Option, sym, refl, ap, ◌∙◌, subst, inl, inr, arith}
-use Rattle.std.specs.Char.{to_ascii_lowercase}
-use Rattle.std.specs.List.{prefix_len, suffix_len, AllByRecursion}
-use Rattle.std.proofs.lemmas.List.{take-map, length-map, reverse-append, map-append}
+use Rattle.std.proofs.Common.{◌≡◌, ℕ, ◌<◌, Bool, true, false, cond, not, ◌&&◌, ◌⊎◌, List, [], ◌∷◌, Some, None, codes, filter, Option, sym, refl, ap, ◌∙◌, subst, inl, inr, arith}
+use Rattle.std.specs.List.{AllByRecursion}
 use Rattle.std.proofs.lemmas.Bool.Decides.{nat_tests}
 use Rattle.characters.proofs.Ascii.{ascii_points}
 use Rattle.protections.specs.declared.rules.Mode.{Mode}
 use Rattle.protections.specs.declared.rules.Mode.TheVariants.{Symlink}
-use Rattle.protections.specs.Words.{equals, among}
+use Rattle.protections.specs.Words.{equals}
 use Rattle.protections.specs.Keys.{lowered, before, trimmed, ignored, hfs_key, ntfs_key}
+use Rattle.protections.specs.Ends.{colon, space_dot, before_lowered, trimmed_lowered}
 use Rattle.protections.specs.Names.{git, modules}
 use Rattle.protections.specs.Rules.{linked, hfs_rule, ntfs_rule, plain_rule}
 use Rattle.protections.proofs.Equal.{equals_true}
@@ -33,44 +32,6 @@ hfs_plain s h =
     ap (λ t. lowered (filter (λ c. not (ignored c)) t)) (ascii_points s low) ∙ ap lowered (all_shown s low)
 
 -- NTFS: small letters may be made before the cuts, since no letter is in a set
-
-map_reverse : (s : List ℕ) → lowered (reverse s) ≡ reverse (lowered s)
-map_reverse [] = refl
-map_reverse (b ∷ s) =
-    ap lowered (reverse-append (b ∷ []) s)
-    ∙ map-append to_ascii_lowercase (reverse s) (b ∷ [])
-    ∙ ap (λ t. t ++ to_ascii_lowercase b ∷ []) (map_reverse s)
-    ∙ sym (reverse-append (to_ascii_lowercase b ∷ []) (lowered s))
-
-module _ (set : List ℕ) (same : (b : ℕ) → among set (to_ascii_lowercase b) ≡ among set b) where
-  leading_lowered : (s : List ℕ) → prefix_len (λ b. not (among set b)) (lowered s) ≡ prefix_len (λ b. not (among set b)) s
-  leading_lowered [] = refl
-  leading_lowered (b ∷ s) = rw (same b, leading_lowered s)
-
-  before_lowered : (s : List ℕ) → lowered (before set s) ≡ before set (lowered s)
-  before_lowered s =
-      let n = leading_lowered s in
-      sym (take-map to_ascii_lowercase (prefix_len (λ b. not (among set b)) s) s) ∙ ap (λ k. take k (lowered s)) (sym n)
-
-  passing_lowered : (s : List ℕ) → prefix_len (among set) (lowered s) ≡ prefix_len (among set) s
-  passing_lowered [] = refl
-  passing_lowered (b ∷ s) = rw (same b, passing_lowered s)
-
-  ending_lowered : (s : List ℕ) → suffix_len (among set) (lowered s) ≡ suffix_len (among set) s
-  ending_lowered s = ap (prefix_len (among set)) (sym (map_reverse s)) ∙ passing_lowered (reverse s)
-
-  trimmed_lowered : (s : List ℕ) → lowered (trimmed set s) ≡ trimmed set (lowered s)
-  trimmed_lowered s =
-      let n : length s - suffix_len (among set) s ≡ length (lowered s) - suffix_len (among set) (lowered s)
-      = rw (length-map s to_ascii_lowercase, ending_lowered s)
-      in
-      sym (take-map to_ascii_lowercase (length s - suffix_len (among set) s) s) ∙ ap (λ k. take k (lowered s)) n
-
-pub colon : (b : ℕ) → among (codes ":") (to_ascii_lowercase b) ≡ among (codes ":") b
-colon b = grind (arith, nat_tests)
-
-pub space_dot : (b : ℕ) → among (codes " .") (to_ascii_lowercase b) ≡ among (codes " .") b
-space_dot b = grind (arith, nat_tests)
 
 ntfs_of : (s : List ℕ) → ntfs_key s ≡ trimmed (codes " .") (before (codes ":") (lowered s))
 unfolding ntfs_key

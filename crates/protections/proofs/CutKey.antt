@@ -1,80 +1,27 @@
 -- The key by a cut, told from the front of a component.
-use Rattle.std.proofs.Common.{Bor, Some, None, Option, min, nat_le, ◌≡◌, ℕ, suc, ◌+◌, ◌-◌, ◌<◌, Bool, true, false, cond, not, ◌&&◌, eqb, ◌⊎◌, List, [], ◌∷◌, ◌++◌, reverse, length, take, drop, sym, refl, ap, ◌∙◌, inl, inr, one-add, arith}
+use Rattle.std.proofs.Common.{Bor, Some, None, Option, min, nat_le, ◌≡◌, ℕ, suc, ◌+◌, ◌<◌, Bool, true, false, cond, not, ◌&&◌, eqb, ◌⊎◌, List, [], ◌∷◌, ◌++◌, length, take, drop, sym, refl, ap, ◌∙◌, inl, inr, ⊎_elim, one-add, arith}
 use Rattle.std.specs.Char.{to_ascii_lowercase}
 use Rattle.std.specs.Cmp.Lexicographic.{unequal}
-use Rattle.std.specs.List.{prefix_len, suffix_len, list_all, find}
+use Rattle.std.specs.List.{prefix_len, list_all, find}
 use Rattle.std.specs.Option.{option_map, option_map_or, unwrap_or}
-use Rattle.std.proofs.lemmas.List.{length-map, length-take, length-drop, length-reverse, reverse-append, take-append-drop}
-use Rattle.std.proofs.lemmas.List.Sums.{suffix_len-le-length}
-use Rattle.std.proofs.lemmas.Bool.{leb-true, eqb-true, eqb-false, ne_eqb, and_parts, and_right, not-true, true≢false}
+use Rattle.std.proofs.lemmas.List.{length-map, length-take, length-drop, take-append-drop}
+use Rattle.std.proofs.lemmas.Bool.{leb-true, ne_eqb, and_parts, and_right, not-true, true≢false}
 use Rattle.protections.specs.Words.{equals, among}
 use Rattle.protections.specs.Keys.{lowered, before, trimmed, cut_key, cut_name, without_block}
-
--- how many pass from the end back, with one more element in front
-
-module _ (p : ℕ → Bool) where
-  leading_some : (xs : List ℕ) (b : ℕ) → prefix_len p xs < length xs → prefix_len p (xs ++ b ∷ []) ≡ prefix_len p xs
-  leading_some [] b h = let z : ⊥ = omega arith in absurd z
-  leading_some (x ∷ xs) b h = go (p x) refl (leading_some xs b)
-    where
-      go : (t : Bool) → p x ≡ t → (prefix_len p xs < length xs → prefix_len p (xs ++ b ∷ []) ≡ prefix_len p xs) →
-          prefix_len p ((x ∷ xs) ++ b ∷ []) ≡ prefix_len p (x ∷ xs)
-      go true e f =
-          let one : prefix_len p (x ∷ xs) ≡ 1 + prefix_len p xs = rw e in
-          let l : prefix_len p xs < length xs = omega arith in
-          rw (e, f l)
-      go false e f = rw e
-
-  leading_all : (xs : List ℕ) (b : ℕ) → prefix_len p xs ≡ length xs → prefix_len p (xs ++ b ∷ []) ≡ length xs + cond (p b) 1 0
-  leading_all [] b h = go (p b)
-    where
-      go : (t : Bool) → cond t (1 + 0) 0 ≡ 0 + cond t 1 0
-      go true = refl
-      go false = refl
-  leading_all (x ∷ xs) b h = go (p x) refl (leading_all xs b)
-    where
-      go : (t : Bool) → p x ≡ t → (prefix_len p xs ≡ length xs → prefix_len p (xs ++ b ∷ []) ≡ length xs + cond (p b) 1 0) →
-          prefix_len p ((x ∷ xs) ++ b ∷ []) ≡ length (x ∷ xs) + cond (p b) 1 0
-      go true e f =
-          let one : prefix_len p (x ∷ xs) ≡ 1 + prefix_len p xs = rw e in
-          let l : prefix_len p xs ≡ length xs = omega arith in
-          let more = f l in
-          rw e (omega arith)
-      go false e f = let none : prefix_len p (x ∷ xs) ≡ 0 = rw e in let z : ⊥ = omega arith in absurd z
-
-  backwards : (b : ℕ) (t : List ℕ) → reverse (b ∷ t) ≡ reverse t ++ b ∷ []
-  backwards b t = reverse-append (b ∷ []) t
-
-  ending_some : (b : ℕ) (t : List ℕ) → suffix_len p t < length t → suffix_len p (b ∷ t) ≡ suffix_len p t
-  ending_some b t h =
-      let n = length-reverse t in ap (prefix_len p) (backwards b t) ∙ leading_some (reverse t) b (omega arith)
-
-  ending_all : (b : ℕ) (t : List ℕ) → suffix_len p t ≡ length t → suffix_len p (b ∷ t) ≡ length t + cond (p b) 1 0
-  ending_all b t h =
-      ap (prefix_len p) (backwards b t)
-      ∙ leading_all (reverse t) b (h ∙ sym (length-reverse t))
-      ∙ ap (λ n. n + cond (p b) 1 0) (length-reverse t)
+use Rattle.protections.proofs.Trimmed.{trimmed_fill, trimmed_keep}
 
 -- the key of a byte and what follows it
 
+pub past : (stops : List ℕ) (b : ℕ) (t : List ℕ) → among stops b ≡ false → before stops (b ∷ t) ≡ b ∷ before stops t
+past stops b t e =
+    let n = prefix_len (λ x. not (among stops x)) t in
+    let z : prefix_len (λ x. not (among stops x)) (b ∷ t) ≡ suc n = rw e (one-add n) in
+    ap (λ k. take k (b ∷ t)) z
+
 module _ (stops fillers : List ℕ) where
-  past : (b : ℕ) (t : List ℕ) → among stops b ≡ false → before stops (b ∷ t) ≡ b ∷ before stops t
-  past b t e =
-      let n = prefix_len (λ x. not (among stops x)) t in
-      let z : prefix_len (λ x. not (among stops x)) (b ∷ t) ≡ suc n = rw e (one-add n) in
-      ap (λ k. take k (b ∷ t)) z
-
-  kept : (b : ℕ) (t : List ℕ) → suffix_len (among fillers) (b ∷ t) ≡ suffix_len (among fillers) t → trimmed fillers (b ∷ t) ≡ b ∷ trimmed fillers t
-  kept b t e =
-      let l = suffix_len-le-length (among fillers) t in
-      let n : length (b ∷ t) - suffix_len (among fillers) (b ∷ t) ≡ suc (length t - suffix_len (among fillers) t) = omega arith in
-      ap (λ k. take k (b ∷ t)) n
-
-  none_kept : (u : List ℕ) → lowered (trimmed fillers u) ≡ [] → suffix_len (among fillers) u ≡ length u
-  none_kept u e =
-      let l = suffix_len-le-length (among fillers) u in
-      let n = simp (length-map, length-take) at (ap length e) in
-      omega arith
+  none_made : (u : List ℕ) → lowered u ≡ [] → u ≡ []
+  none_made [] e = refl
+  none_made (x ∷ u) e = let z : ◌≡◌ {A = ℕ} 0 1 = cc in let w : ⊥ = omega arith in absurd w
 
   key_stop : (b : ℕ) (t : List ℕ) → among stops b ≡ true → cut_key stops fillers (b ∷ t) ≡ []
   unfolding cut_key
@@ -84,37 +31,15 @@ module _ (stops fillers : List ℕ) where
       cut_key stops fillers (b ∷ t) ≡ []
   unfolding cut_key
   key_fill b t e f g =
-      let u = before stops t in
-      let all = none_kept u g in
-      let more : suffix_len (among fillers) (b ∷ u) ≡ length u + 1 = ending_all (among fillers) b u all ∙ rw f in
-      let n : length (b ∷ u) - suffix_len (among fillers) (b ∷ u) ≡ 0 = omega arith in
-      ap (λ v. lowered (trimmed fillers v)) (past b t e) ∙ ap (λ k. lowered (take k (b ∷ u))) n
-
-  same_end : (b : ℕ) (u : List ℕ) → (among fillers b ≡ false) ⊎ (lowered (trimmed fillers u) ≡ [] → ⊥) →
-      suffix_len (among fillers) (b ∷ u) ≡ suffix_len (among fillers) u
-  same_end b u f = go (eqb (suffix_len (among fillers) u) (length u)) refl f
-    where
-      none : suffix_len (among fillers) u ≡ length u → lowered (trimmed fillers u) ≡ []
-      none l = let n : length u - suffix_len (among fillers) u ≡ 0 = omega arith in ap (λ k. lowered (take k u)) n
-
-      go : (x : Bool) → eqb (suffix_len (among fillers) u) (length u) ≡ x → (among fillers b ≡ false) ⊎ (lowered (trimmed fillers u) ≡ [] → ⊥) →
-          suffix_len (among fillers) (b ∷ u) ≡ suffix_len (among fillers) u
-      go true q (inl g) =
-          let l = eqb-true (suffix_len (among fillers) u) (length u) q in
-          let all : suffix_len (among fillers) (b ∷ u) ≡ length u + 0 = ending_all (among fillers) b u l ∙ rw g in
-          omega arith
-      go true q (inr g) = absurd (g (none (eqb-true (suffix_len (among fillers) u) (length u) q)))
-      go false q r =
-          let n = eqb-false (suffix_len (among fillers) u) (length u) q in
-          let l = suffix_len-le-length (among fillers) u in
-          ending_some (among fillers) b u (omega arith)
+      ap (λ v. lowered (trimmed fillers v)) (past stops b t e)
+      ∙ ap lowered (trimmed_fill fillers b (before stops t) f (none_made (trimmed fillers (before stops t)) g))
 
   key_keep : (b : ℕ) (t : List ℕ) → among stops b ≡ false → (among fillers b ≡ false) ⊎ (cut_key stops fillers t ≡ [] → ⊥) →
       cut_key stops fillers (b ∷ t) ≡ to_ascii_lowercase b ∷ cut_key stops fillers t
   unfolding cut_key
   key_keep b t e f =
-      ap (λ v. lowered (trimmed fillers v)) (past b t e)
-      ∙ ap lowered (kept b (before stops t) (same_end b (before stops t) f))
+      ap (λ v. lowered (trimmed fillers v)) (past stops b t e)
+      ∙ ap lowered (trimmed_keep fillers b (before stops t) (⊎_elim inl (λ g. inr (λ h. g (ap lowered h))) f))
 
   -- only fillers
 

@@ -9,7 +9,7 @@ use Rattle.std.proofs.lemmas.Bool.Decides.{nat_tests}
 use Rattle.protections.specs.Words.{equals, among}
 use Rattle.protections.specs.Keys.{lowered, cut_key, cut_name, ntfs_key}
 use Rattle.protections.specs.Names.{short, short_name, ShortName}
-use Rattle.protections.proofs.Agree.{colon, space_dot}
+use Rattle.protections.specs.Ends.{colon, space_dot}
 use Rattle.protections.proofs.CutKey.{whole_name}
 use Rattle.protections.proofs.Equal.{equals_true, equals_refl}
 use Rattle.protections.proofs.Told.{short_decides}

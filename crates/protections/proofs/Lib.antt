@@ -9,4 +9,6 @@ mod FirstDot
 mod Lent
 mod Second
 mod Short
+mod Stream
 pub mod Told
+mod Trimmed

@@ -1,8 +1,9 @@
 //! The protection for HFS+: characters that it passes over do not count.
-ghost use Rattle.std.specs.Prelude.{◌≡◌, ◌==◌, slice_index};
+ghost use Rattle.std.specs.Prelude.{◌≡◌, ◌==◌, [], slice_index};
 ghost use Rattle.protections.specs.Keys.{ignored, hfs_key};
 ghost use Rattle.protections.specs.Rules.{hfs_rule};
 ghost use Rattle.protections.specs.Bound.{hfs_bounded};
+ghost use Rattle.protections.specs.Ends.{none_trimmed};
 
 use crate::keys::{Keyed, small};
 use crate::rules::{Mode, Protection, Verdict, verdict_by_key};
@@ -23,13 +24,13 @@ fn passes_over(number: u32) -> bool
 impl Keyed for Hfs {
     ghost key = { λ _ s. hfs_key s };
 
-    ghost remaining = { λ _ s. hfs_key s };
+    ghost told = { λ _ s. hfs_key s };
+
+    ghost trailing = { λ _. [] };
+
+    ghost counted = { λ p s. none_trimmed (hfs_key s) };
 
     ghost within = { λ p s h. hfs_bounded s };
-
-    fn start<'a>(&self, component: &'a [u8]) -> &'a [u8] {
-        component
-    }
 
     // The rest is the caller's, and `Characters` keeps its own to itself, so the loop takes the parts off by hand.
     fn advance(&self, rest: &mut &[u8]) -> Option<u32> {
@@ -40,6 +41,10 @@ impl Keyed for Hfs {
             }
         }
         None
+    }
+
+    fn is_trailing(&self, _number: u32) -> bool {
+        false
     }
 }
 

@@ -1,9 +1,9 @@
 //! Keys: lists of numbers by which components are compared, and the one comparison.
-ghost use Rattle.std.specs.Prelude.{◌≡◌, ℕ, ◌<◌, ◌≤◌, List, Decides};
+ghost use Rattle.std.specs.Prelude.{◌≡◌, ℕ, ◌<◌, ◌≤◌, List, Option as Maybe, Decides};
 ghost use Rattle.std.specs.Iterator.{YieldsFirst, item_count};
-ghost use Rattle.std.specs.List.{AllByRecursion};
-ghost use Rattle.protections.specs.Words.{Takes, equals};
-ghost use Rattle.protections.specs.Keys.{lowered};
+ghost use Rattle.std.specs.List.{AllByRecursion, list_all};
+ghost use Rattle.protections.specs.Words.{Takes, equals, among, onto};
+ghost use Rattle.protections.specs.Keys.{trimmed};
 ghost use Rattle.std.specs.Char.{to_ascii_lowercase};
 
 use crate::plain_names::Plain;
@@ -13,22 +13,29 @@ use std::marker::Model;
 pub trait Keyed {
     ghost key: { Self → List ℕ → List ℕ };
 
-    // The numbers that are still to come when so much is left.
-    ghost remaining: { Self → List ℕ → List ℕ };
+    // The numbers that a component is told as: its key, and then those at the end that do not count.
+    ghost told: { Self → List ℕ → List ℕ };
 
-    // Most impls give the whole component. A default body would need a law that `key` and `remaining` are the same there.
-    /// The part of the component that the key is read from.
-    fn start<'a>(&self, component: &'a [u8]) -> &'a [u8]
-        ensures { remaining self.now result.now ≡ key self.now component.now };
+    // The numbers that do not count where none but such follow.
+    ghost trailing: { Self → List ℕ };
 
-    /// Takes the key's next number off what is left.
+    /// Takes the next number off what is left of a component.
     fn advance(&self, rest: &mut &[u8]) -> Option<u32>
-        ensures { Takes (remaining self.now rest.old.now) result (remaining self.now rest.new.now) };
+        ensures { Takes (told self.now rest.old.now) result (told self.now rest.new.now) };
+
+    // Most impls answer no. A default body would need a law that `trailing` is empty there.
+    /// Whether the number does not count at the end.
+    fn is_trailing(&self, number: u32) -> bool
+        ensures { result ≡ among (trailing self.now) number };
+
+    ghost counted: { (p : Self) (s : List ℕ) → key p s ≡ trimmed (trailing p) (told p s) };
 
     ghost within: { (p : Self) (s : List ℕ) → AllByRecursion (λ b. b < 256) s → AllByRecursion (λ n. n ≤ 1114111) (key p s) };
 }
 
-/// An iterator over the numbers of a component's key.
+/// An iterator over the numbers of a component's key, and then over those at its end that do not count.
+///
+/// Only the end of the component tells these apart. To look for it ahead would read a component twice.
 #[derive(Drop)]
 pub struct Cursor<'p, 'a, P: Keyed> {
     protection: &'p P,
@@ -38,17 +45,20 @@ pub struct Cursor<'p, 'a, P: Keyed> {
 impl<'p, 'a, P: Keyed> Model for Cursor<'p, 'a, P> {
     ghost Value = { List ℕ };
 
-    ghost view = { λ c. P.Keyed.remaining c.protection.now c.rest.now };
+    ghost view = { λ c. P.Keyed.told c.protection.now c.rest.now };
 }
 
 impl<'p, 'a, P: Keyed> Cursor<'p, 'a, P> {
-    /// A cursor before the first number of the component's key.
+    /// A cursor before the first number of the component.
     pub fn new(protection: &'p P, component: &'a [u8]) -> Cursor<'p, 'a, P>
-        ensures numbers { result ≡ P.Keyed.key protection.now component.now }
+        ensures numbers { result ≡ P.Keyed.told protection.now component.now }
+        ensures key { P.Keyed.key protection.now component.now ≡ trimmed (P.Keyed.trailing protection.now) result }
         ensures bound { AllByRecursion (λ n. n ≤ 1114111) (P.Keyed.key protection.now component.now) }
     {
-        let rest = protection.start(component);
-        Cursor { protection, rest }
+        Cursor {
+            protection,
+            rest: component,
+        }
     }
 }
 
@@ -59,35 +69,41 @@ impl<'p, 'a, P: Keyed> Iterator for Cursor<'p, 'a, P> {
 
     ghost remaining = { item_count (λ c. c) };
 
-    /// The next number of the key.
+    /// The next number.
     fn next(&mut self) -> Option<u32> {
         self.protection.advance(&mut self.rest)
     }
 }
 
-/// Whether two cursors yield the same numbers.
-pub fn same<P: Keyed, Q: Keyed>(left: Cursor<'_, '_, P>, right: Cursor<'_, '_, Q>) -> bool
-    ensures value { result ≡ equals left.entry right.entry }
-    ensures decides { Decides result (left.entry ≡ right.entry) }
+// Whether neither the number, if there is one, nor any that follows it counts.
+fn only_trailing<P: Keyed>(protection: &P, number: Option<u32>, mut rest: Cursor<'_, '_, P>) -> bool
+    ensures { result ≡ list_all (among (P.Keyed.trailing protection.now)) (onto number rest.entry) }
 {
-    left.eq(right)
+    number.is_none_or(|number| protection.is_trailing(number))
+        && rest.all(|number| protection.is_trailing(number))
 }
 
-/// Whether two components have the same key.
+/// Whether two components have the same key: past the numbers that they share, neither has one that counts.
 pub fn same_key<P: Keyed>(protection: &P, left: &[u8], right: &[u8]) -> bool
     ensures { Decides result (P.Keyed.key protection.now left.now ≡ P.Keyed.key protection.now right.now) }
 {
-    same(
-        Cursor::new(protection, left),
-        Cursor::new(protection, right),
-    )
+    let mut left = Cursor::new(protection, left);
+    let mut right = Cursor::new(protection, right);
+    loop {
+        let number = left.next();
+        let other = right.next();
+        if number.is_none() || number != other {
+            return only_trailing(protection, number, left)
+                && only_trailing(protection, other, right);
+        }
+    }
 }
 
-/// Whether the component's key is the name.
-pub fn named<P: Keyed>(keyed: &P, component: &[u8], name: &[u8]) -> bool
-    ensures { result ≡ equals (P.Keyed.key keyed.now component.now) name.now }
+// Whether the component is told as the name.
+pub(crate) fn named<P: Keyed>(keyed: &P, component: &[u8], name: &[u8]) -> bool
+    ensures { result ≡ equals (P.Keyed.told keyed.now component.now) name.now }
 {
-    same(Cursor::new(keyed, component), Cursor::new(&Plain, name))
+    Cursor::new(keyed, component).eq(Cursor::new(&Plain, name))
 }
 
 // A to Z made small. The library has this for a byte and for a `char`, and a key's number is neither.

@@ -16,7 +16,7 @@ mod windows_names;
 pub use bytes_as_they_are::ByBytes;
 pub use cuts::one_of;
 pub use hfs_names::Hfs;
-pub use keys::{Cursor, Keyed, named, same, same_key};
+pub use keys::{Cursor, Keyed, same_key};
 pub use ntfs_names::Ntfs;
 pub use plain_names::Plain;
 pub use rules::{Mode, Protection, Verdict};

@@ -1,15 +1,16 @@
 //! The protection for NTFS: streams, trailing spaces and dots, and short names.
 ghost use Rattle.std.specs.Prelude.{◌≡◌, ℕ, ◌≤◌, ◌||◌, length, codes, Decides};
-ghost use Rattle.protections.specs.Keys.{lowered, ntfs_key};
+ghost use Rattle.protections.specs.Keys.{lowered, before, ntfs_key};
 ghost use Rattle.protections.specs.Names.{numbered_by, short_at, short_name, ShortName, ntfs_modules};
 ghost use Rattle.protections.specs.Words.{listed, some};
 ghost use Rattle.protections.specs.Rules.{numbered, ntfs_rule};
 ghost use Rattle.protections.specs.Bound.{bytes_bounded, ntfs_bounded};
+ghost use Rattle.protections.specs.Ends.{ntfs_trimmed};
 ghost use Rattle.std.proofs.Common.{arith};
 ghost use Rattle.std.proofs.lemmas.Bool.Decides.{nat_tests};
 
 use crate::cut_names::Cut;
-use crate::cuts::{take_small, up_to, without_end};
+use crate::cuts::take_small;
 use crate::keys::{Keyed, named};
 use crate::rules::{Mode, Protection, Verdict, git_verdict, is_link};
 use crate::small_letters::Lowered;
@@ -32,16 +33,23 @@ const MODULES: [&[u8]; 5] = [
 impl Keyed for Ntfs {
     ghost key = { λ _ s. ntfs_key s };
 
-    ghost remaining = { λ _ s. lowered s };
+    ghost told = { λ _ s. lowered (before (codes ":") s) };
+
+    ghost trailing = { λ _. codes " ." };
+
+    ghost counted = { λ p s. ntfs_trimmed s };
 
     ghost within = { λ p s h. ntfs_bounded s (bytes_bounded s h) };
 
-    fn start<'a>(&self, component: &'a [u8]) -> &'a [u8] {
-        without_end(up_to(component, b":"), b" .")
+    fn advance(&self, rest: &mut &[u8]) -> Option<u32> {
+        match rest {
+            [b':', ..] => None,
+            _ => take_small(rest),
+        }
     }
 
-    fn advance(&self, rest: &mut &[u8]) -> Option<u32> {
-        take_small(rest)
+    fn is_trailing(&self, number: u32) -> bool {
+        matches!(number, 0x20 | 0x2E)
     }
 }
 

@@ -62,13 +62,13 @@ pub(crate) fn git_verdict(git: bool, linked_modules: bool) -> Option<Verdict>
     linked_modules.then_some(Verdict::SymlinkedGitModules)
 }
 
-// The verdict on a component by a key that is taken whole for that of `.git` or of `.gitmodules`.
+// The verdict on a component by whether it is told as `.git` or as `.gitmodules`.
 pub(crate) fn verdict_by_key<K: Keyed>(
     keyed: &K,
     component: &[u8],
     mode: Option<Mode>,
 ) -> Option<Verdict>
-    ensures { numbered result ≡ guarded (equals (K.Keyed.key keyed.now component.now) git_name) (equals (K.Keyed.key keyed.now component.now) modules_name) mode }
+    ensures { numbered result ≡ guarded (equals (K.Keyed.told keyed.now component.now) git_name) (equals (K.Keyed.told keyed.now component.now) modules_name) mode }
 {
     let modules = is_link(mode) && named(keyed, component, b".gitmodules");
     git_verdict(named(keyed, component, b".git"), modules)

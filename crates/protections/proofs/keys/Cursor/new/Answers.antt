@@ -1,5 +1,5 @@
--- The key is read from where `start` says, and its numbers are code points since the component's are bytes.
-use Rattle.std.proofs.Common.{◌<◌, arith}
+-- The key is what the component is told as without its end, and its numbers are code points since the component's are bytes.
+use Rattle.std.proofs.Common.{◌<◌, refl, arith}
 use Rattle.std.proofs.ByRecursion.{All-from_get_or}
 use Rattle.protections.proofs.keys.Cursor.new.Goals as goal
 
@@ -7,4 +7,8 @@ pub returns : goal.returns
 returns g c =
     let s = c.args.component.now in
     let bytes = All-from_get_or (λ b. b < 256) s 0 (λ i h. omega (arith, c.type_inv.component i)) in
-    record { numbers = c.start-rest.ensures; bound = g.met.P.Keyed.within c.args.protection.now s bytes }
+    record {
+      numbers = refl;
+      key = g.met.P.Keyed.counted c.args.protection.now s;
+      bound = g.met.P.Keyed.within c.args.protection.now s bytes;
+    }
