@@ -14,7 +14,6 @@ mod windows_devices;
 mod windows_names;
 
 pub use bytes_as_they_are::ByBytes;
-pub use cuts::one_of;
 pub use hfs_names::Hfs;
 pub use keys::{Cursor, Keyed, same_key};
 pub use ntfs_names::Ntfs;

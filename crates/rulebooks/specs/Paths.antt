@@ -1,12 +1,8 @@
 -- The components of a tree path, and what the ruling on it says of them.
-use Rattle.std.specs.Prelude.{◌≡◌, ℕ, ◌<◌, ◌≤◌, ◌⊎◌, List, [], ◌∷◌, ◌++◌, length, codes, ◌≢◌, slice_index}
+use Rattle.std.specs.Prelude.{◌≡◌, ℕ, ◌⊎◌, List, [], ◌∷◌, ◌++◌, length, codes, ◌≢◌}
 use Rattle.tag.specs.Components.{Among}
 use Rattle.rulebooks.specs.Rulings.{Ruling}
 use Rattle.rulebooks.specs.Rulings.Ruling.{allowed, refused}
-
--- The first component of s has n bytes: none of these is a slash, and a slash or the end comes next.
-abbrev pub FirstEnds : List ℕ → ℕ → Type 0
-FirstEnds s n = (n ≤ length s) × ((k : ℕ) → k < n → slice_index s k ≢ 47) × (n < length s → slice_index s n ≡ 47)
 
 -- The two relative components.
 abbrev pub Relative : List ℕ → Type 0

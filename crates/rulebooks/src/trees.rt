@@ -2,22 +2,12 @@
 ghost use Rattle.std.specs.Prelude.{◌≡◌, IfErr};
 ghost use Rattle.tag.specs.Components.{components};
 ghost use Rattle.rulebooks.specs.Kinds.{component_ruling, tree_paths};
-ghost use Rattle.rulebooks.specs.Paths.{FirstEnds, PathRuled};
+ghost use Rattle.rulebooks.specs.Paths.{PathRuled};
 ghost use Rattle.rulebooks.specs.Refusals.{fault_ruling, ruling_of};
 ghost use Rattle.rulebooks.specs.Filled.{leftmost_filled};
 
 use super::{Refusal, Rulebook, RulebookFault, ask};
 use tag::components::Components;
-
-/// The length of the component that `path` begins with.
-pub fn component_end(path: &[u8]) -> usize
-    ensures { FirstEnds path.now result }
-{
-    // The place of the slash is all that is asked: a cut at it, by `split_once`, would only be measured.
-    path.iter()
-        .position(|byte| *byte == b'/')
-        .unwrap_or(path.len())
-}
 
 /// Whether a tree path may have this component at this index: 21 for an empty one, 28 for a relative one.
 fn check_component(index: usize, component: &[u8]) -> Result<(), Refusal>
