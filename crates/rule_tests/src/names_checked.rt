@@ -7,15 +7,35 @@ fn number<'a, E: Into<Error<'a>>>(res: Result<&'a [u8], E>) -> Option<u8> {
     Some(res.err()?.into().number())
 }
 
-// A tag name, and the number by which it is refused, none for an allowed one.
-type Case = (&'static [u8], Option<u8>);
-
-// Whether each of these is refused by its number.
-fn refuses(cases: &[Case]) -> bool {
-    cases
-        .iter()
-        .all(|(name, refused)| number(tag::name(*name)) == *refused)
+#[derive(Clone, Copy)]
+enum Check {
+    Tag,
+    Partial,
+    Complete,
+    Branch,
 }
+
+impl Check {
+    // The number by which the check refuses the name, none for an allowed one.
+    fn refusal(self, name: &'static [u8]) -> Option<u8> {
+        match self {
+            Check::Tag => number(tag::name(name)),
+            Check::Partial => number(reference::name_partial(name)),
+            Check::Complete => number(reference::name(name)),
+            Check::Branch => number(reference::branch_name(name)),
+        }
+    }
+
+    // Whether the check refuses each of these by its number.
+    fn refuses(self, cases: &[Case]) -> bool {
+        cases
+            .iter()
+            .all(|(name, refused)| self.refusal(*name) == *refused)
+    }
+}
+
+// A name, and the number by which it is refused, none for an allowed one.
+type Case = (&'static [u8], Option<u8>);
 
 #[test]
 fn rules_of_the_manual(rt: HostRuntime) {
@@ -40,7 +60,7 @@ fn rules_of_the_manual(rt: HostRuntime) {
         (b"back\\slash", Some(1)),
         (b"refs/heads/main", None),
     ];
-    assert!(rt; refuses(&cases));
+    assert!(rt; Check::Tag.refuses(&cases));
 }
 
 #[test]
@@ -55,36 +75,35 @@ fn tag_names(rt: HostRuntime) {
         (b".lock/x", Some(5)),
         (b".a b", Some(1)),
     ];
-    assert!(rt; refuses(&cases));
+    assert!(rt; Check::Tag.refuses(&cases));
     assert_eq!(rt; tag::Error::Empty.number(), 11);
 }
 
 #[test]
 fn one_level_names(rt: HostRuntime) {
-    assert_eq!(rt; number(reference::name(b"lower")), Some(12));
-    assert_eq!(rt; number(reference::name(b"A1")), Some(12));
-    assert_eq!(rt; number(reference::name(b"HEAD")), None);
-    assert_eq!(rt; number(reference::name(b"FETCH_HEAD")), None);
-    assert_eq!(rt; number(reference::name(b"refs/lower")), None);
-    assert_eq!(rt; number(reference::name_partial(b"some-name")), None);
-    assert_eq!(rt; number(reference::name_partial(b"@")), Some(13));
-    assert_eq!(rt; number(reference::name(b"refs/heads/@")), None);
+    let complete: [Case; 6] = [
+        (b"lower", Some(12)),
+        (b"A1", Some(12)),
+        (b"HEAD", None),
+        (b"FETCH_HEAD", None),
+        (b"refs/lower", None),
+        (b"refs/heads/@", None),
+    ];
+    let partial: [Case; 2] = [(b"some-name", None), (b"@", Some(13))];
+    assert!(rt; Check::Complete.refuses(&complete) && Check::Partial.refuses(&partial));
 }
 
 #[test]
 fn branch_names(rt: HostRuntime) {
-    assert_eq!(rt;
-        number(reference::branch_name(b"refs/heads/HEAD")),
-        Some(13)
-    );
-    assert_eq!(rt;
-        number(reference::branch_name(b"refs/heads/-draft")),
-        Some(13)
-    );
-    assert_eq!(rt; number(reference::name(b"refs/heads/-draft")), None);
-    assert_eq!(rt; number(reference::branch_name(b"refs/heads/a/-b")), None);
-    assert_eq!(rt; number(reference::branch_name(b"HEAD")), None);
-    assert_eq!(rt; number(reference::branch_name(b"main")), Some(12));
+    let branches: [Case; 5] = [
+        (b"refs/heads/HEAD", Some(13)),
+        (b"refs/heads/-draft", Some(13)),
+        (b"refs/heads/a/-b", None),
+        (b"HEAD", None),
+        (b"main", Some(12)),
+    ];
+    let complete: [Case; 1] = [(b"refs/heads/-draft", None)];
+    assert!(rt; Check::Branch.refuses(&branches) && Check::Complete.refuses(&complete));
 }
 
 // Whether the mender makes this handle of the text.
@@ -96,16 +115,19 @@ fn mends(text: &[u8], handle: &[u8]) -> bool {
 
 #[test]
 fn mended_texts(rt: HostRuntime) {
-    assert!(rt; mends(b"a.lock.lock", b"a"));
-    assert!(rt; mends(b"@.lock", b"-"));
-    assert!(rt; mends(b"a..lock", b"a"));
-    assert!(rt; mends(b".lock", b"-lock"));
-    assert!(rt; mends(b"a./", b"a-"));
-    assert!(rt; mends(b"", b"-"));
-    assert!(rt; mends(b"///", b"-"));
-    assert!(rt; mends(b"//a//b//", b"a/b"));
-    assert!(rt; mends(b"@{now}", b"@-now}"));
-    assert!(rt; mends(b"refs/heads/@", b"refs/heads/@"));
+    let texts: [(&'static [u8], &'static [u8]); 10] = [
+        (b"a.lock.lock", b"a"),
+        (b"@.lock", b"-"),
+        (b"a..lock", b"a"),
+        (b".lock", b"-lock"),
+        (b"a./", b"a-"),
+        (b"", b"-"),
+        (b"///", b"-"),
+        (b"//a//b//", b"a/b"),
+        (b"@{now}", b"@-now}"),
+        (b"refs/heads/@", b"refs/heads/@"),
+    ];
+    assert!(rt; texts.iter().all(|(text, handle)| mends(text, handle)));
 }
 
 #[test]

@@ -1,5 +1,0 @@
-//! Tests of the file systems, with examples from outside.
-#![tactic(auto)]
-
-#[cfg(test)]
-mod piles_asked;
