@@ -1,12 +1,13 @@
 #!/usr/bin/env python3
 """Plants bugs in the bodies of functions, one at a time, and lists those that are still proved.
 
-    python3 tools/planted.py [CRATE..] [--jobs N] [--only WORD] [--list] [--kept FILE]
+    python3 tools/planted.py [CRATE..] [--edits] [--jobs N] [--only WORD] [--list] [--kept FILE]
 
 Run it in a clone, after `rt all check`. A bug is one small change of a body in crates/CRATE/src, tried in a copy of the clone by
 `rt check` of its crate: a comparison, a sum or an `and` turned, a constant one larger or smaller, another byte or text, a condition
 turned round, a statement or an early return left out, two arguments exchanged, an argument by another of its type, another case
 of an enum, another method of the same form, no value for `Some`. Tests, and programs that only read and write, are left out.
+With --edits the bugs are those of tools/edits/CRATE in their place, each a file as in crates/CRATE/must-fail, which the gate tries.
 
 The last line counts them. A row is written for each that is still proved (either it means the same, or a contract says too little),
 and for each that was refused only because a file of proofs/ no longer fits (which shows nothing of the contract). With --kept, what came
@@ -137,6 +138,30 @@ class Bug:
             file.write_text(text)
 
 
+class Written:
+    """A bug that a file writes down: a line `file: PATH`, and lines `old: TEXT` and `new: TEXT` by turns."""
+
+    def __init__(self, edit):
+        self.crate, self.edit = edit.parent.name, edit
+
+    def row(self, root):
+        return f'{self.edit.relative_to(root)}'
+
+    def verdict(self, copy):
+        lines = [line.split(': ', 1) for line in self.edit.read_text().splitlines() if ': ' in line]
+        file = copy / 'crates' / self.crate / next(text for word, text in lines if word == 'file')
+        text = edited = file.read_text()
+        for (_, old), (_, new) in zip(lines[1::2], lines[2::2]):
+            if edited.count(old) != 1:
+                return 'no program'
+            edited = edited.replace(old, new)
+        file.write_text(edited)
+        try:
+            return checked(copy / 'crates' / self.crate)
+        finally:
+            file.write_text(text)
+
+
 def checked(folder):
     """What `rt check` says of the crate; a check that takes too long is ended with all that it started."""
     run = subprocess.Popen(['rt', 'check'], cwd=folder, stdout=subprocess.PIPE, stderr=subprocess.STDOUT, start_new_session=True)
@@ -164,6 +189,7 @@ def verdict_of(status, said):
 def main():
     parser = argparse.ArgumentParser(description=__doc__, formatter_class=argparse.RawDescriptionHelpFormatter)
     parser.add_argument('crates', nargs='*')
+    parser.add_argument('--edits', action='store_true')
     parser.add_argument('--jobs', type=int, default=4)
     parser.add_argument('--only', default='')
     parser.add_argument('--kept', type=Path)
@@ -171,8 +197,11 @@ def main():
     args = parser.parse_args()
     root = Path.cwd()
     names = args.crates or sorted(p.name for p in (root / 'crates').iterdir() if not p.name.endswith('_tests') and p.name not in PROGRAMS)
-    bugs = [Bug(name, file.relative_to(root), *edit) for name in names for file in sorted((root / 'crates' / name / 'src').rglob('*.rt'))
-            for edit in edits(file.read_text()) if args.only in edit[0]]
+    if args.edits:
+        bugs = [Written(edit) for name in names for edit in sorted((root / 'tools/edits' / name).glob('*.edit')) if args.only in edit.name]
+    else:
+        bugs = [Bug(name, file.relative_to(root), *edit) for name in names for file in sorted((root / 'crates' / name / 'src').rglob('*.rt'))
+                for edit in edits(file.read_text()) if args.only in edit[0]]
     known = {}
     if args.kept and args.kept.exists():
         known = dict(reversed(line.split(': ', 1)) for line in args.kept.read_text().splitlines())
