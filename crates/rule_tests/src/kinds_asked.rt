@@ -1,7 +1,7 @@
 //! The rulebooks on examples.
 use rulebooks::names::{BranchNames, CompleteNames, PartialNames, TagNames};
 use rulebooks::trees::{TreePaths, tree_path};
-use rulebooks::{MendingRulebook, Refusal, Rulebook, RulebookFault, ask_by_manual};
+use rulebooks::{ManualRulebook, MendingRulebook, Refusal, Rulebook, RulebookFault, ask_by_manual};
 
 fn refused(kind: u8, number: u8, value: usize) -> Result<(), RulebookFault> {
     Err(RulebookFault {
@@ -10,45 +10,70 @@ fn refused(kind: u8, number: u8, value: usize) -> Result<(), RulebookFault> {
     })
 }
 
+// A name or path, and the answer to it.
+type Case = (&'static [u8], Result<(), RulebookFault>);
+
+// Whether the rulebook answers these so.
+fn answers<R: ManualRulebook>(rules: &R, cases: &[Case]) -> bool {
+    cases
+        .iter()
+        .all(|(name, answer)| ask_by_manual(rules, *name) == *answer)
+}
+
 #[test]
 fn kinds(rt: HostRuntime) {
-    assert_eq!(rt; PartialNames::KIND, 1);
-    assert_eq!(rt; CompleteNames::KIND, 2);
-    assert_eq!(rt; BranchNames::KIND, 3);
-    assert_eq!(rt; TagNames::KIND, 4);
-    assert_eq!(rt; TreePaths::KIND, 5);
+    let kinds = [
+        PartialNames::KIND,
+        CompleteNames::KIND,
+        BranchNames::KIND,
+        TagNames::KIND,
+        TreePaths::KIND,
+    ];
+    assert!(rt; kinds == [1, 2, 3, 4, 5]);
 }
 
 #[test]
 fn partial_names(rt: HostRuntime) {
-    assert_eq!(rt; ask_by_manual(&PartialNames, b"staff/Smith"), Ok(()));
-    assert_eq!(rt; ask_by_manual(&PartialNames, b"/"), refused(1, 10, 0));
-    assert_eq!(rt; ask_by_manual(&PartialNames, b"@"), refused(1, 13, 0));
-    assert_eq!(rt; ask_by_manual(&PartialNames, b".lock/x"), refused(1, 5, 0));
-    assert_eq!(rt; ask_by_manual(&PartialNames, b".a b"), refused(1, 1, 0x20));
+    let cases: [Case; 5] = [
+        (b"staff/Smith", Ok(())),
+        (b"/", refused(1, 10, 0)),
+        (b"@", refused(1, 13, 0)),
+        (b".lock/x", refused(1, 5, 0)),
+        (b".a b", refused(1, 1, 0x20)),
+    ];
+    assert!(rt; answers(&PartialNames, &cases));
 }
 
 #[test]
 fn other_names(rt: HostRuntime) {
-    assert_eq!(rt; ask_by_manual(&CompleteNames, b"HEAD"), Ok(()));
-    assert_eq!(rt; ask_by_manual(&CompleteNames, b"A1"), refused(2, 12, 0));
-    assert_eq!(rt; ask_by_manual(&BranchNames, b"refs/heads/main"), Ok(()));
-    assert_eq!(rt;
-        ask_by_manual(&BranchNames, b"refs/heads/-x"),
-        refused(3, 13, 0)
+    let complete: [Case; 2] = [(b"HEAD", Ok(())), (b"A1", refused(2, 12, 0))];
+    let branches: [Case; 2] = [
+        (b"refs/heads/main", Ok(())),
+        (b"refs/heads/-x", refused(3, 13, 0)),
+    ];
+    let tags: [Case; 2] = [(b"@", Ok(())), (b"v1..0", refused(4, 4, 0))];
+    assert!(rt;
+        answers(&CompleteNames, &complete)
+            && answers(&BranchNames, &branches)
+            && answers(&TagNames, &tags)
     );
-    assert_eq!(rt; ask_by_manual(&TagNames, b"@"), Ok(()));
-    assert_eq!(rt; ask_by_manual(&TagNames, b"v1..0"), refused(4, 4, 0));
 }
 
 #[test]
 fn tree_paths(rt: HostRuntime) {
-    assert_eq!(rt; tree_path(b"a b/*.c/..."), Ok(()));
-    assert_eq!(rt; tree_path(b""), refused(5, 21, 0));
-    assert_eq!(rt; tree_path(b"a/b/"), refused(5, 21, 2));
-    assert_eq!(rt; tree_path(b"a/../."), refused(5, 28, 1));
-    assert_eq!(rt; tree_path(b"."), refused(5, 28, 0));
-    assert_eq!(rt; tree_path(b"a//."), refused(5, 21, 1));
+    let cases: [Case; 6] = [
+        (b"a b/*.c/...", Ok(())),
+        (b"", refused(5, 21, 0)),
+        (b"a/b/", refused(5, 21, 2)),
+        (b"a/../.", refused(5, 28, 1)),
+        (b".", refused(5, 28, 0)),
+        (b"a//.", refused(5, 21, 1)),
+    ];
+    assert!(rt;
+        cases
+            .iter()
+            .all(|(path, answer)| tree_path(*path) == *answer)
+    );
 }
 
 #[test]

@@ -11,15 +11,34 @@ fn number<F: FileSystem>(files: &F, component: &[u8], mode: Option<Mode>) -> Opt
 
 const LINK: Option<Mode> = Some(Mode::Symlink);
 
+// Two components, and whether they lie together.
+type Pair = (&'static [u8], &'static [u8], bool);
+
+// Whether just these of the pairs lie together.
+fn confuses<F: FileSystem>(files: &F, pairs: &[Pair]) -> bool {
+    pairs.iter().all(|(left, right, together)| files.lie_together(*left, *right) == *together)
+}
+
+// A component and its mode, and the number by which it is refused.
+type Case = (&'static [u8], Option<Mode>, Option<u8>);
+
+// Whether the file system judges these so.
+fn judges<F: FileSystem>(files: &F, cases: &[Case]) -> bool {
+    cases.iter().all(|(component, mode, refused)| number(files, *component, *mode) == *refused)
+}
+
 #[test]
 fn plain_pairs(rt: HostRuntime) {
     let mut bottom = DeclaredBottom::new();
     assert!(rt; !bottom.lie_together(b"lib", b"library"));
     assert_eq!(rt; bottom.declare(b"lib", b"library"), Ok(()));
-    assert!(rt; bottom.lie_together(b"lib", b"library"));
-    assert!(rt; bottom.lie_together(b"library", b"lib"));
-    assert!(rt; bottom.lie_together(b"x", b"x"));
-    assert!(rt; !bottom.lie_together(b"lib", b"Library"));
+    let pairs: [Pair; 4] = [
+        (b"lib", b"library", true),
+        (b"library", b"lib", true),
+        (b"x", b"x", true),
+        (b"lib", b"Library", false),
+    ];
+    assert!(rt; confuses(&bottom, &pairs));
     assert_eq!(rt; number(&bottom, b".git", None), Some(26));
 }
 
@@ -36,21 +55,26 @@ fn limits(rt: HostRuntime) {
         bottom.declare(b"a", long),
         Err(DeclareError::ComponentTooLong)
     );
-    assert_eq!(rt; DeclareError::TooManyPairs.number(), 44);
-    assert_eq!(rt; DeclareError::ComponentTooLong.number(), 33);
-    assert!(rt; !bottom.lie_together(b"a", long));
-    assert!(rt; bottom.lie_together(b"x", &long[1..]));
+    assert!(rt;
+        DeclareError::TooManyPairs.number() == 44 && DeclareError::ComponentTooLong.number() == 33
+    );
+    assert!(rt; !bottom.lie_together(b"a", long) && bottom.lie_together(b"x", &long[1..]));
 }
 
 #[test]
 fn mac(rt: HostRuntime) {
     let pile = mac_and_windows();
-    assert!(rt; pile.lie_together(b"Group", b"group"));
-    assert!(rt; pile.lie_together(b"Group. ", b"group:stream"));
-    assert!(rt; !pile.lie_together(b"group", b"groups"));
-    assert_eq!(rt; number(&pile, b"git~1", None), Some(26));
-    assert_eq!(rt; number(&pile, b".gitmodules", LINK), Some(27));
-    assert_eq!(rt; number(&pile, b"con", None), None);
+    let pairs: [Pair; 3] = [
+        (b"Group", b"group", true),
+        (b"Group. ", b"group:stream", true),
+        (b"group", b"groups", false),
+    ];
+    let cases: [Case; 3] = [
+        (b"git~1", None, Some(26)),
+        (b".gitmodules", LINK, Some(27)),
+        (b"con", None, None),
+    ];
+    assert!(rt; confuses(&pile, &pairs) && judges(&pile, &cases));
 }
 
 #[test]
@@ -58,9 +82,11 @@ fn full(rt: HostRuntime) {
     let mut bottom = DeclaredBottom::new();
     assert_eq!(rt; bottom.declare(b"lib", b"library"), Ok(()));
     let pile = all_protections(bottom);
-    assert!(rt; pile.lie_together(b"library", b"lib"));
-    assert!(rt; pile.lie_together(b"LIB", b"lib."));
-    assert!(rt; !pile.lie_together(b"LIB", b"library"));
-    assert_eq!(rt; number(&pile, b"con\\", None), Some(22));
-    assert_eq!(rt; number(&pile, b"con", None), Some(24));
+    let pairs: [Pair; 3] = [
+        (b"library", b"lib", true),
+        (b"LIB", b"lib.", true),
+        (b"LIB", b"library", false),
+    ];
+    let cases: [Case; 2] = [(b"con\\", None, Some(22)), (b"con", None, Some(24))];
+    assert!(rt; confuses(&pile, &pairs) && judges(&pile, &cases));
 }
