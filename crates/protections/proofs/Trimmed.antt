@@ -1,11 +1,11 @@
 -- A list without the numbers at its end that do not count, told from the front, and two such compared.
 use Rattle.std.proofs.Common.{◌≡◌, ℕ, suc, ◌+◌, ◌-◌, ◌<◌, Bool, true, false, cond, not, ◌&&◌, eqb, ◌⊎◌, List, [], ◌∷◌, ◌++◌, reverse, length, take, Some, None, Option, sym, refl, ap, ◌∙◌, inl, inr, ⊎_elim, arith}
-use Rattle.std.specs.List.{prefix_len, suffix_len, list_all}
+use Rattle.std.specs.List.{cons_option, prefix_len, suffix_len, list_all}
 use Rattle.std.specs.Option.{option_map_or, option_eq, is_some}
 use Rattle.std.proofs.lemmas.List.{length-take, length-reverse, reverse-append}
 use Rattle.std.proofs.lemmas.List.Sums.{suffix_len-le-length}
 use Rattle.std.proofs.lemmas.Bool.{eqb-true, eqb-false, eq-eqb, not-true, not-false, true≢false, false≢true}
-use Rattle.protections.specs.Words.{equals, among, onto, Takes}
+use Rattle.protections.specs.Words.{equals, among, Takes}
 use Rattle.protections.specs.Keys.{trimmed}
 
 -- how many pass from the end back, with one more element in front
@@ -54,9 +54,9 @@ module _ (p : ℕ → Bool) where
       ∙ ap (λ n. n + cond (p b) 1 0) (length-reverse t)
 
 -- an optional number in front
-pub onto_all : (p : ℕ → Bool) (o : Option ℕ) (u : List ℕ) → list_all p (onto o u) ≡ (option_map_or p o true && list_all p u)
-onto_all p None u = refl
-onto_all p (Some x) u = refl
+pub all_with_first : (p : ℕ → Bool) (o : Option ℕ) (u : List ℕ) → list_all p (cons_option o u) ≡ (option_map_or p o true && list_all p u)
+all_with_first p None u = refl
+all_with_first p (Some x) u = refl
 
 -- a number and what follows it
 
@@ -157,7 +157,7 @@ module _ (set : List ℕ) where
 
   -- they do not
   pub differ : (o p : Option ℕ) (u u' v v' : List ℕ) → Takes u o u' → Takes v p v' → (is_some o ≡ false) ⊎ (true ≡ not (option_eq eqb o p)) →
-      Same u v ≡ (list_all (among set) (onto o u') && list_all (among set) (onto p v'))
+      Same u v ≡ (list_all (among set) (cons_option o u') && list_all (among set) (cons_option p v'))
   differ None None u u' v v' a b f = rw (a.0, a.1, b.0, b.1)
   differ None (Some y) u u' v v' a b f = rw (a.0, a.1, b, step y v') (go (list_all (among set) (y ∷ v')))
     where

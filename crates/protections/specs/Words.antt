@@ -1,5 +1,5 @@
 -- Tests on byte strings, in the library's words, and what a step off a list is.
-use Rattle.std.specs.Prelude.{ℕ, Bool, List, ◌∷◌, Option, Some, None, nat_eq}
+use Rattle.std.specs.Prelude.{ℕ, Bool, List, Option, nat_eq}
 use Rattle.std.specs.Iterator.{YieldsFirst}
 use Rattle.std.specs.List.{list_any}
 use Rattle.std.specs.Str.{bytes_eq}
@@ -23,8 +23,3 @@ listed names k = some (equals k) names
 -- the answer is the first number of the list before, if it has one, and the others are left
 abbrev pub Takes : List ℕ → Option ℕ → List ℕ → Type 0
 Takes = YieldsFirst (λ s. s)
-
--- the number, if there is one, in front of the others
-abbrev pub onto : Option ℕ → List ℕ → List ℕ
-onto None s = s
-onto (Some x) s = x ∷ s

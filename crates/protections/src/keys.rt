@@ -1,8 +1,8 @@
 //! Keys: lists of numbers by which components are compared, and the one comparison.
 ghost use Rattle.std.specs.Prelude.{◌≡◌, ℕ, ◌<◌, ◌≤◌, List, Option as Maybe, Decides};
 ghost use Rattle.std.specs.Iterator.{YieldsFirst, item_count};
-ghost use Rattle.std.specs.List.{AllByRecursion, list_all};
-ghost use Rattle.protections.specs.Words.{Takes, equals, among, onto};
+ghost use Rattle.std.specs.List.{AllByRecursion, cons_option, list_all};
+ghost use Rattle.protections.specs.Words.{Takes, equals, among};
 ghost use Rattle.protections.specs.Keys.{trimmed};
 ghost use Rattle.std.specs.Char.{to_ascii_lowercase};
 
@@ -77,7 +77,7 @@ impl<'p, 'a, P: Keyed> Iterator for Cursor<'p, 'a, P> {
 
 // Whether neither the number, if there is one, nor any that follows it counts.
 fn only_trailing<P: Keyed>(protection: &P, number: Option<u32>, mut rest: Cursor<'_, '_, P>) -> bool
-    ensures { result ≡ list_all (among (P.Keyed.trailing protection.now)) (onto number rest.entry) }
+    ensures { result ≡ list_all (among (P.Keyed.trailing protection.now)) (cons_option number rest.entry) }
 {
     number.is_none_or(|number| protection.is_trailing(number))
         && rest.all(|number| protection.is_trailing(number))

@@ -6,7 +6,7 @@ use Rattle.std.specs.List.{list_all}
 use borrow.Author.Tests.{tests}
 use Rattle.protections.specs.Words.{among}
 use Rattle.protections.proofs.Equal.{tested}
-use Rattle.protections.proofs.Trimmed.{onto_all}
+use Rattle.protections.proofs.Trimmed.{all_with_first}
 use Rattle.protections.proofs.keys.only_trailing.Goals as goal
 
 pub returns-then-is_none_or : goal.returns-then-is_none_or
@@ -14,4 +14,4 @@ returns-then-is_none_or g c =
     let test : ℕ → Bool = among (g.P.Keyed.trailing c.args.protection.now) in
     let first = tested test true c.args.number c.is_none_or.result _ c.is_none_or.ensures (λ n h. search rules) in
     let others = all_from_yields_List test _ _ c.all.result c.all.ensures.ran (YieldsList-from_first (λ n. n) _ _ refl) (λ x b q k. search (rules, tests)) in
-    others ∙ sym (onto_all test c.args.number _ ∙ ap (λ b. b && list_all test c.args.rest) (sym first ∙ c.if-is_none_or.true))
+    others ∙ sym (all_with_first test c.args.number _ ∙ ap (λ b. b && list_all test c.args.rest) (sym first ∙ c.if-is_none_or.true))
