@@ -1,7 +1,6 @@
 //! Five protections against names that a file system takes for others: their keys and their verdicts.
 #![tactic(auto)]
 
-mod bytes_as_they_are;
 mod cut_names;
 mod cuts;
 mod hfs_names;
@@ -13,7 +12,6 @@ mod small_letters;
 mod windows_devices;
 mod windows_names;
 
-pub use bytes_as_they_are::ByBytes;
 pub use hfs_names::Hfs;
 pub use keys::{Cursor, Keyed, same_key};
 pub use ntfs_names::Ntfs;

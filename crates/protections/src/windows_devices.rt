@@ -5,11 +5,13 @@ ghost use Rattle.protections.specs.Names.{devices, continued};
 ghost use Rattle.protections.specs.Words.{listed, some};
 ghost use Rattle.protections.specs.Keys.{cut_key, ended, device_key, from_digit};
 ghost use Rattle.protections.specs.Rules.{is_device, illegal, has_illegal, ends_illegally, device_rule};
+ghost use Rattle.protections.specs.Bound.{bytes_bounded};
+ghost use Rattle.protections.specs.Ends.{none_trimmed};
 ghost use Rattle.std.proofs.Common.{arith};
 ghost use Rattle.std.proofs.lemmas.Bool.Decides.{nat_tests};
 
-use crate::bytes_as_they_are::ByBytes;
 use crate::cut_names::Cut;
+use crate::cuts::take_byte;
 use crate::keys::Keyed;
 use crate::rules::{Mode, Protection, Verdict};
 
@@ -17,7 +19,25 @@ use crate::rules::{Mode, Protection, Verdict};
 #[derive(Clone, Copy, PartialEq, Eq, Debug)]
 pub struct WindowsDevices;
 
-impl ByBytes for WindowsDevices {}
+impl Keyed for WindowsDevices {
+    ghost key = { λ _ s. s };
+
+    ghost told = { λ _ s. s };
+
+    ghost trailing = { λ _. [] };
+
+    ghost counted = { λ p s. none_trimmed s };
+
+    ghost within = { λ p s h. bytes_bounded s h };
+
+    fn advance(&self, rest: &mut &[u8]) -> Option<u32> {
+        take_byte(rest)
+    }
+
+    fn is_trailing(&self, _number: u32) -> bool {
+        false
+    }
+}
 
 impl Cut for WindowsDevices {
     ghost stops = { codes ".:" };

@@ -1,9 +1,11 @@
 //! The protection for Windows names: separators, and the prefix of a drive.
-ghost use Rattle.std.specs.Prelude.{◌≡◌, ◌==◌, slice_index};
+ghost use Rattle.std.specs.Prelude.{◌≡◌, ◌==◌, [], slice_index};
 ghost use Rattle.characters.specs.Reader.{code_points};
 ghost use Rattle.protections.specs.Rules.{windows_rule};
+ghost use Rattle.protections.specs.Bound.{bytes_bounded};
+ghost use Rattle.protections.specs.Ends.{none_trimmed};
 
-use crate::bytes_as_they_are::ByBytes;
+use crate::cuts::take_byte;
 use crate::keys::Keyed;
 use crate::rules::{Mode, Protection, Verdict};
 use characters::Characters;
@@ -12,7 +14,25 @@ use characters::Characters;
 #[derive(Clone, Copy, PartialEq, Eq, Debug)]
 pub struct WindowsNames;
 
-impl ByBytes for WindowsNames {}
+impl Keyed for WindowsNames {
+    ghost key = { λ _ s. s };
+
+    ghost told = { λ _ s. s };
+
+    ghost trailing = { λ _. [] };
+
+    ghost counted = { λ p s. none_trimmed s };
+
+    ghost within = { λ p s h. bytes_bounded s h };
+
+    fn advance(&self, rest: &mut &[u8]) -> Option<u32> {
+        take_byte(rest)
+    }
+
+    fn is_trailing(&self, _number: u32) -> bool {
+        false
+    }
+}
 
 // Whether the second character is a colon.
 fn has_prefix(component: &[u8]) -> bool

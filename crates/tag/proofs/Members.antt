@@ -1,6 +1,6 @@
 -- What is among the elements of a list.
-use Rattle.std.proofs.Common.{List, [], ◌∷◌, ◌++◌, sym, refl, subst, inl, inr}
-use Rattle.std.specs.List.{AllByRecursion}
+use Rattle.std.proofs.Common.{◌≡◌, ℕ, zero, suc, ◌<◌, List, [], ◌∷◌, ◌++◌, length, sym, refl, subst, inl, inr, arith}
+use Rattle.std.specs.List.{AllByRecursion, Contains, slice_index_or}
 use Rattle.tag.specs.Components.{Among}
 
 -- An element that is written out is among the list.
@@ -19,3 +19,18 @@ module _ {X : Type 0} (P : X → Type 0) where
   pub all_from_each : (xs : List X) → ((x : X) → Among x xs → P x) → AllByRecursion P xs
   all_from_each [] h = tt
   all_from_each (y ∷ xs) h = (h y (inl refl), all_from_each xs (λ x m. h x (inr m)))
+
+-- The same by the index that an element has.
+
+pub contains_among : {X : Type 0} (xs : List X) (x : X) → Among x xs → Contains xs x
+contains_among [] x m = absurd m
+contains_among (y ∷ xs) x (inl e) = (0, omega arith, sym e)
+contains_among (y ∷ xs) x (inr m) = let r = contains_among xs x m in let l = r.1 in (suc r.0, omega arith, r.2)
+
+among_index : {X : Type 0} (xs : List X) (x : X) (k : ℕ) → k < length xs → slice_index_or xs k x ≡ x → Among x xs
+among_index [] x k l e = absurd (omega arith)
+among_index (y ∷ xs) x zero l e = inl (sym e)
+among_index (y ∷ xs) x (suc k) l e = inr (among_index xs x k (omega arith) e)
+
+pub among_contains : {X : Type 0} (xs : List X) (x : X) → Contains xs x → Among x xs
+among_contains xs x c = among_index xs x c.0 c.1 c.2
