@@ -32,7 +32,8 @@ TURNED = [(' < ', ' <= '), (' <= ', ' < '), (' > ', ' >= '), (' >= ', ' > '), ('
           ('.is_empty()', '.len() == 1'), ('break', 'continue'), ('.or_else(', '.and('), ('.find(', '.rfind('), ('.position(', '.rposition('),
           ('.first()', '.last()'), ('.last()', '.first()'), ('.take(', '.skip('), ('.skip(', '.take(')]
 WAIT = 240  # seconds for one check
-PROGRAMS = {'names', 'handles', 'campus_day', 'replay', 'samples_tried', 'listing_io'}
+PROGRAMS = {'names', 'names_refused', 'names_at_limit', 'names_too_long', 'handles', 'handles_long', 'replay', 'samples_tried',
+            'listing_io', 'handling_io'}
 
 
 def blanked(text):

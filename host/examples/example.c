@@ -1,5 +1,5 @@
 /* Checks each argument as a partial reference name, and mends it. From the folder host:
-       mkdir -p ../target && gcc -Wall -Wextra -Iinclude examples/example.c ../crates/exports/out/libexports.a -o ../target/example
+       mkdir -p ../target && gcc -Wall -Wextra -Iinclude examples/example.c ../crates/c_names/out/libc_names.a -o ../target/example
        ../target/example main 'Dr. Jones*' @ */
 #include <stdio.h>
 #include <string.h>

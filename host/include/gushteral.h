@@ -1,5 +1,5 @@
 /* The seven calls of Gushteral for C: checks of Git's tag names, reference names and path components, and a mender of
-   partial reference names. They are in libexports.a, which needs only memset beside it.
+   partial reference names. They are in libc_names.a, which needs only memset beside it.
 
    For every call:
    - `input` points to `length` bytes, which need not be text and may hold zero bytes. It is never NULL, also where
@@ -89,7 +89,7 @@ GushteralMendAnswer gushteral_reference_name_partial_or_sanitize(const uint8_t *
 uint32_t gushteral_path_component(const uint8_t *input, size_t length,
                                   uint8_t link, uint8_t windows, uint8_t hfs, uint8_t ntfs);
 
-/* 1 where Windows takes the component for a device, such as CON or lpt1.txt, else 0. */
+/* 1 where the component's device key is one of the listed names, as of CON or lpt1.txt, else 0. */
 uint8_t gushteral_path_component_is_windows_device(const uint8_t *input, size_t length);
 
 #ifdef __cplusplus

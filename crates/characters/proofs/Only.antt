@@ -7,21 +7,21 @@ use Rattle.std.proofs.lemmas.Bool.{eqb-true, eqb-false, eq-eqb, cases_order}
 use Rattle.characters.specs.declared.Range.{Range}
 use Rattle.characters.specs.declared.Part.{Part}
 use Rattle.characters.specs.declared.Part.TheVariants.{Character, Replaced}
-use Rattle.characters.specs.Table.{table, EachWithin, within, following_of}
-use Rattle.characters.specs.Standard.{code_point_of, Begins, IsCharacter, IsReplaced, IsPart, Standard, Only}
+use Rattle.characters.specs.Table.{table, EachLiesIn, lies_in, following_of}
+use Rattle.characters.specs.Standard.{code_point_of, BeginsWellFormed, IsCharacter, IsReplaced, IsPart, Standard, Only}
 use Rattle.characters.specs.Reader.{part_by, next_part, first_part}
 use Rattle.characters.proofs.Rows.{common_in, inside, full, no_longer, picks, picked, table_ascends}
 use Rattle.characters.proofs.Steps.{begins, standing, tail_of}
 
 -- as many bytes as ranges
-as_many : (s : List ℕ) (rs : List Range) → EachWithin s rs → length s ≡ length rs
+as_many : (s : List ℕ) (rs : List Range) → EachLiesIn s rs → length s ≡ length rs
 as_many [] [] w = refl
 as_many [] (r ∷ rs) w = absurd w
 as_many (b ∷ s) [] w = absurd w
 as_many (b ∷ s) (r ∷ rs) w = ap suc (as_many s rs w.1)
 
 -- a front that follows the ranges meets them all
-meets : (bs : List ℕ) (rs : List Range) (n : ℕ) → EachWithin (take n bs) rs → common_prefix_len within bs rs ≡ length rs
+meets : (bs : List ℕ) (rs : List Range) (n : ℕ) → EachLiesIn (take n bs) rs → common_prefix_len lies_in bs rs ≡ length rs
 meets [] [] n w = refl
 meets (b ∷ bs) [] n w = refl
 meets [] (r ∷ rs) zero w = absurd w
@@ -47,7 +47,7 @@ only_character b bs c (suc n) (Some rs) e l m i =
     let size = as_many (take n bs) rs w in
     let long = length-take-le n bs (omega arith) in
     let h : n ≡ length rs = omega arith in
-    let t = eq-eqb (common_prefix_len within bs rs) (length rs) (meets bs rs n w) in
+    let t = eq-eqb (common_prefix_len lies_in bs rs) (length rs) (meets bs rs n w) in
     let value : c ≡ code_point_of (b ∷ take (length rs) bs) = i.value ∙ ap (λ k. code_point_of (b ∷ take k bs)) h in
     let count : suc n ≡ 1 + length rs = omega arith in
     let part : Character c (suc n) ≡ Character (code_point_of (b ∷ take (length rs) bs)) (1 + length rs) = cc in
@@ -60,42 +60,42 @@ unfolding part_by
 only_replaced b bs zero o e l m i = let z : ⊥ = omega arith in absurd z
 only_replaced b bs (suc n) None e l m i = ap Replaced (go i.start)
   where
-    go : Begins (take (suc n) (b ∷ bs)) ⊎ ((suc n ≡ 1) × (Begins (take 1 (b ∷ bs)) → ⊥)) → suc n ≡ 1
+    go : BeginsWellFormed (take (suc n) (b ∷ bs)) ⊎ ((suc n ≡ 1) × (BeginsWellFormed (take 1 (b ∷ bs)) → ⊥)) → suc n ≡ 1
     go (inl g) = let p = picks table table_ascends b (take n bs ++ g.0) g.2 in absurd (clash (sym e ∙ p.1))
     go (inr h) = h.0
-only_replaced b bs (suc n) (Some rs) e l m i = go (eqb (common_prefix_len within bs rs) (length rs)) refl
+only_replaced b bs (suc n) (Some rs) e l m i = go (eqb (common_prefix_len lies_in bs rs) (length rs)) refl
   where
-    count : common_prefix_len within bs rs < length rs → n ≡ common_prefix_len within bs rs
-    count h = order (cases_order n (common_prefix_len within bs rs)) i.start
+    count : common_prefix_len lies_in bs rs < length rs → n ≡ common_prefix_len lies_in bs rs
+    count h = order (cases_order n (common_prefix_len lies_in bs rs)) i.start
       where
-        order : (n ≡ common_prefix_len within bs rs) ⊎ ((n < common_prefix_len within bs rs) ⊎ (common_prefix_len within bs rs < n)) →
-            Begins (take (suc n) (b ∷ bs)) ⊎ ((suc n ≡ 1) × (Begins (take 1 (b ∷ bs)) → ⊥)) → n ≡ common_prefix_len within bs rs
+        order : (n ≡ common_prefix_len lies_in bs rs) ⊎ ((n < common_prefix_len lies_in bs rs) ⊎ (common_prefix_len lies_in bs rs < n)) →
+            BeginsWellFormed (take (suc n) (b ∷ bs)) ⊎ ((suc n ≡ 1) × (BeginsWellFormed (take 1 (b ∷ bs)) → ⊥)) → n ≡ common_prefix_len lies_in bs rs
         order (inl q) g = q
         order (inr (inl q)) g =
-            let most = common_prefix_len-le within bs rs in
-            absurd (i.longest (suc (common_prefix_len within bs rs)) (omega arith) (omega arith) (begins b bs rs e h))
+            let most = common_prefix_len-le lies_in bs rs in
+            absurd (i.longest (suc (common_prefix_len lies_in bs rs)) (omega arith) (omega arith) (begins b bs rs e h))
         order (inr (inr q)) (inl g) =
             absurd (no_longer bs rs n g.0 q (omega arith) (tail_of b bs rs e (take n bs ++ g.0) g.2))
         order (inr (inr q)) (inr g) = let one = g.0 in let z : ⊥ = omega arith in absurd z
 
-    go : (t : Bool) → eqb (common_prefix_len within bs rs) (length rs) ≡ t →
-        Replaced (suc n) ≡ cond t (Character (code_point_of (b ∷ take (length rs) bs)) (1 + length rs)) (Replaced (1 + common_prefix_len within bs rs))
+    go : (t : Bool) → eqb (common_prefix_len lies_in bs rs) (length rs) ≡ t →
+        Replaced (suc n) ≡ cond t (Character (code_point_of (b ∷ take (length rs) bs)) (1 + length rs)) (Replaced (1 + common_prefix_len lies_in bs rs))
     go true t =
-        let h = eqb-true (common_prefix_len within bs rs) (length rs) t in
+        let h = eqb-true (common_prefix_len lies_in bs rs) (length rs) t in
         absurd (i.none (suc (length rs)) (picked table b (take (length rs) bs) rs e (full bs rs h)))
     go false t =
-        let h = eqb-false (common_prefix_len within bs rs) (length rs) t in
-        let most = common_prefix_len-le within bs rs in
+        let h = eqb-false (common_prefix_len lies_in bs rs) (length rs) t in
+        let most = common_prefix_len-le lies_in bs rs in
         let same = count (omega arith) in
-        ap Replaced (ap suc same ∙ sym (one-add (common_prefix_len within bs rs)))
+        ap Replaced (ap suc same ∙ sym (one-add (common_prefix_len lies_in bs rs)))
 
 pub only : (s : List ℕ) (p : Part) → IsPart s p → first_part s ≡ Some p
 unfolding next_part
-only [] (Character c n) i = let a = i.some in let b = i.inside in let z : ⊥ = omega arith in absurd z
-only [] (Replaced n) i = let a = i.some in let b = i.inside in let z : ⊥ = omega arith in absurd z
-only (b ∷ bs) (Character c n) i = ap Some (sym (only_character b bs c n (following_of table b) refl i.some i.inside i.told))
-only (b ∷ bs) (Replaced n) i = ap Some (sym (only_replaced b bs n (following_of table b) refl i.some i.inside i.told))
+only [] (Character c n) i = let a = i.not_empty in let b = i.inside in let z : ⊥ = omega arith in absurd z
+only [] (Replaced n) i = let a = i.not_empty in let b = i.inside in let z : ⊥ = omega arith in absurd z
+only (b ∷ bs) (Character c n) i = ap Some (sym (only_character b bs c n (following_of table b) refl i.not_empty i.inside i.kind))
+only (b ∷ bs) (Replaced n) i = ap Some (sym (only_replaced b bs n (following_of table b) refl i.not_empty i.inside i.kind))
 
 -- So the part that the definition has is the Standard's, and no other is.
-pub laid_down : (s : List ℕ) (r : Option Part) → r ≡ first_part s → Standard s r × Only s r
-laid_down s r v = (subst (Standard s) (sym v) (standing s), λ p i. v ∙ only s p i)
+pub standard_and_only : (s : List ℕ) (r : Option Part) → r ≡ first_part s → Standard s r × Only s r
+standard_and_only s r v = (subst (Standard s) (sym v) (standing s), λ p i. v ∙ only s p i)

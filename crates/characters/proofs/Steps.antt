@@ -1,16 +1,25 @@
 -- The part at the front of a byte string is the one that the Standard lays down.
 use Rattle.std.proofs.Common.{◌≡◌, ℕ, zero, suc, ◌+◌, ◌-◌, ◌<◌, ◌≤◌, Bool, true, false, cond, eqb, List, [], ◌∷◌, ◌++◌, map, length, take, drop, Some, None, Option, sym, refl, ap, ◌∙◌, subst, inl, inr, one-add, arith, length-drop}
+use Rattle.std.specs.Char.{IsScalar}
 use Rattle.std.specs.List.{flat_map, common_prefix_len}
 use Rattle.std.proofs.lemmas.List.{length-map, take-append-drop, take_rest}
 use Rattle.std.proofs.lemmas.List.Sums.{common_prefix_len-le}
+use Rattle.std.proofs.lemmas.Bool.Decides.{nat_tests}
 use Rattle.std.proofs.lemmas.Bool.{eqb-true, eqb-false, eq-eqb, ne_eqb}
 use Rattle.characters.specs.declared.Range.{Range}
 use Rattle.characters.specs.declared.Part.{Part}
 use Rattle.characters.specs.declared.Part.TheVariants.{Character, Replaced}
-use Rattle.characters.specs.Table.{Row, table, EachWithin, Follows, SomeRow, WellFormed, within, following_of}
-use Rattle.characters.specs.Standard.{code_point_of, Scalar, Begins, Listed, IsCharacter, IsReplaced, IsPart, Standard, size, Reads, pieces}
+use Rattle.characters.specs.Table.{Row, table, EachLiesIn, Follows, SomeRow, WellFormed, lies_in, following_of}
+use Rattle.characters.specs.Standard.{code_point_of, BeginsWellFormed, IsOfRow, IsCharacter, IsReplaced, IsPart, Standard, size, Reads, pieces}
 use Rattle.characters.specs.Reader.{part_by, next_part, first_part, parts_up_to, parts, Whole}
 use Rattle.characters.proofs.Rows.{full, goes_on, no_longer, none_full, picks, picked, opened, none_empty, table_ascends, table_open}
+
+-- the same as bounds
+abbrev Scalar : ℕ → Type 0
+Scalar c = (c < 0x110000) × (0xD800 ≤ c → c ≤ 0xDFFF → ⊥)
+
+scalar_from : (c : ℕ) → Scalar c → IsScalar c
+scalar_from c h = let low = h.0 in let none = h.1 in grind (arith, nat_tests)
 
 scalar : (s : List ℕ) → WellFormed s → Scalar (code_point_of s)
 scalar [] w = absurd (none_empty table w)
@@ -28,20 +37,20 @@ Lies b r = (r.low ≤ b) × (b ≤ r.high)
 abbrev Ranged : ℕ → ℕ → List ℕ → Type 0
 Ranged p q s = (p ≤ code_point_of s) × (code_point_of s ≤ q)
 
-one : (p q : ℕ) (x : Range) → ((a : ℕ) → Lies a x → Ranged p q (a ∷ [])) → (s : List ℕ) → EachWithin s (x ∷ []) → Ranged p q s
+one : (p q : ℕ) (x : Range) → ((a : ℕ) → Lies a x → Ranged p q (a ∷ [])) → (s : List ℕ) → EachLiesIn s (x ∷ []) → Ranged p q s
 one p q x f [] w = absurd w
 one p q x f (a ∷ []) w = f a w.0
 one p q x f (a ∷ b ∷ s) w = absurd w.1
 
 two : (p q : ℕ) (x y : Range) → ((a b : ℕ) → Lies a x → Lies b y → Ranged p q (a ∷ b ∷ [])) →
-    (s : List ℕ) → EachWithin s (x ∷ y ∷ []) → Ranged p q s
+    (s : List ℕ) → EachLiesIn s (x ∷ y ∷ []) → Ranged p q s
 two p q x y f [] w = absurd w
 two p q x y f (a ∷ []) w = absurd w.1
 two p q x y f (a ∷ b ∷ []) w = f a b w.0 w.1.0
 two p q x y f (a ∷ b ∷ c ∷ s) w = absurd w.1.1
 
 three : (p q : ℕ) (x y z : Range) → ((a b c : ℕ) → Lies a x → Lies b y → Lies c z → Ranged p q (a ∷ b ∷ c ∷ [])) →
-    (s : List ℕ) → EachWithin s (x ∷ y ∷ z ∷ []) → Ranged p q s
+    (s : List ℕ) → EachLiesIn s (x ∷ y ∷ z ∷ []) → Ranged p q s
 three p q x y z f [] w = absurd w
 three p q x y z f (a ∷ []) w = absurd w.1
 three p q x y z f (a ∷ b ∷ []) w = absurd w.1.1
@@ -50,7 +59,7 @@ three p q x y z f (a ∷ b ∷ c ∷ d ∷ s) w = absurd w.1.1.1
 
 four : (p q : ℕ) (x y z u : Range) →
     ((a b c d : ℕ) → Lies a x → Lies b y → Lies c z → Lies d u → Ranged p q (a ∷ b ∷ c ∷ d ∷ [])) →
-    (s : List ℕ) → EachWithin s (x ∷ y ∷ z ∷ u ∷ []) → Ranged p q s
+    (s : List ℕ) → EachLiesIn s (x ∷ y ∷ z ∷ u ∷ []) → Ranged p q s
 four p q x y z u f [] w = absurd w
 four p q x y z u f (a ∷ []) w = absurd w.1
 four p q x y z u f (a ∷ b ∷ []) w = absurd w.1.1
@@ -89,7 +98,7 @@ table_agrees = (
   ),
 )
 
-in_row : (rows : List Row) → Agree rows → (s : List ℕ) → SomeRow (Follows s) rows → SomeRow (Listed s (code_point_of s)) rows
+in_row : (rows : List Row) → Agree rows → (s : List ℕ) → SomeRow (Follows s) rows → SomeRow (IsOfRow s (code_point_of s)) rows
 in_row [] g s w = w
 in_row (r ∷ rows) g s (inl f) = let h = g.0 s f in inl (f, h.0, h.1)
 in_row (r ∷ rows) g s (inr w) = inr (in_row rows g.1 s w)
@@ -112,41 +121,41 @@ module _ (b : ℕ) (bs : List ℕ) (e : following_of table b ≡ None) where
       none zero w = none_empty table w
       none (suc m) w = let p = picks table table_ascends b (take m bs) w in clash (sym e ∙ p.1)
 
-      longest : (m : ℕ) → 1 < m → m ≤ length (b ∷ bs) → Begins (take m (b ∷ bs)) → ⊥
+      longest : (m : ℕ) → 1 < m → m ≤ length (b ∷ bs) → BeginsWellFormed (take m (b ∷ bs)) → ⊥
       longest zero l h g = let z : ⊥ = omega arith in z
       longest (suc m) l h g = nowhere m g.0 g.2
 
 -- the ranges that follow the first byte
 module _ (b : ℕ) (bs : List ℕ) (rs : List Range) (e : following_of table b ≡ Some rs) where
   -- a sequence with that first byte goes on in those ranges
-  pub tail_of : (t : List ℕ) → WellFormed (b ∷ t) → EachWithin t rs
-  tail_of t w = let p = picks table table_ascends b t w in subst (EachWithin t) (same (sym p.1 ∙ e)) p.2
+  pub tail_of : (t : List ℕ) → WellFormed (b ∷ t) → EachLiesIn t rs
+  tail_of t w = let p = picks table table_ascends b t w in subst (EachLiesIn t) (same (sym p.1 ∙ e)) p.2
 
-  whole : common_prefix_len within bs rs ≡ length rs → IsCharacter (b ∷ bs) (code_point_of (b ∷ take (length rs) bs)) (suc (length rs))
+  whole : common_prefix_len lies_in bs rs ≡ length rs → IsCharacter (b ∷ bs) (code_point_of (b ∷ take (length rs) bs)) (suc (length rs))
   whole h =
       let w = picked table b (take (length rs) bs) rs e (full bs rs h) in
-      record { well_formed = w; value = refl; listed = in_row table table_agrees (b ∷ take (length rs) bs) w }
+      record { well_formed = w; value = refl; row = in_row table table_agrees (b ∷ take (length rs) bs) w }
 
   low_ends : List ℕ
-  low_ends = map (λ r. r.low) (drop (common_prefix_len within bs rs) rs)
+  low_ends = map (λ r. r.low) (drop (common_prefix_len lies_in bs rs) rs)
 
-  some_left : common_prefix_len within bs rs < length rs → 0 < length low_ends
+  some_left : common_prefix_len lies_in bs rs < length rs → 0 < length low_ends
   unfolding low_ends
   some_left h = simp (length-map, length-drop) (omega arith)
 
-  pub begins : common_prefix_len within bs rs < length rs → Begins (b ∷ take (common_prefix_len within bs rs) bs)
+  pub begins : common_prefix_len lies_in bs rs < length rs → BeginsWellFormed (b ∷ take (common_prefix_len lies_in bs rs) bs)
   unfolding low_ends
   begins h =
-      (low_ends, some_left h, picked table b (take (common_prefix_len within bs rs) bs ++ low_ends) rs e (goes_on bs rs (opened table table_open b rs e)))
+      (low_ends, some_left h, picked table b (take (common_prefix_len lies_in bs rs) bs ++ low_ends) rs e (goes_on bs rs (opened table table_open b rs e)))
 
-  cut : common_prefix_len within bs rs < length rs → IsReplaced (b ∷ bs) (suc (common_prefix_len within bs rs))
-  cut h = record { none = none; start = inl (begins h); longest = longest }
+  shorter_start : common_prefix_len lies_in bs rs < length rs → IsReplaced (b ∷ bs) (suc (common_prefix_len lies_in bs rs))
+  shorter_start h = record { none = none; start = inl (begins h); longest = longest }
     where
       none : (m : ℕ) → WellFormed (take m (b ∷ bs)) → ⊥
       none zero w = none_empty table w
       none (suc m) w = none_full bs rs m h (tail_of (take m bs) w)
 
-      longest : (m : ℕ) → suc (common_prefix_len within bs rs) < m → m ≤ length (b ∷ bs) → Begins (take m (b ∷ bs)) → ⊥
+      longest : (m : ℕ) → suc (common_prefix_len lies_in bs rs) < m → m ≤ length (b ∷ bs) → BeginsWellFormed (take m (b ∷ bs)) → ⊥
       longest zero l i g = let z : ⊥ = omega arith in z
       longest (suc m) l i g = no_longer bs rs m g.0 (omega arith) (omega arith) (tail_of (take m bs ++ g.0) g.2)
 
@@ -154,31 +163,31 @@ module _ (b : ℕ) (bs : List ℕ) (rs : List Range) (e : following_of table b �
 stands_by : (b : ℕ) (bs : List ℕ) (o : Option (List Range)) → following_of table b ≡ o → IsPart (b ∷ bs) (part_by b bs o)
 unfolding part_by
 stands_by b bs None e =
-    record { some = omega arith; inside = omega arith; scalar = omega arith; told = alone b bs e }
-stands_by b bs (Some rs) e = go (eqb (common_prefix_len within bs rs) (length rs)) refl
+    record { not_empty = omega arith; inside = omega arith; scalar = refl; kind = alone b bs e }
+stands_by b bs (Some rs) e = go (eqb (common_prefix_len lies_in bs rs) (length rs)) refl
   where
-    go : (t : Bool) → eqb (common_prefix_len within bs rs) (length rs) ≡ t →
+    go : (t : Bool) → eqb (common_prefix_len lies_in bs rs) (length rs) ≡ t →
         IsPart (b ∷ bs)
-        (cond t (Character (code_point_of (b ∷ take (length rs) bs)) (1 + length rs)) (Replaced (1 + common_prefix_len within bs rs)))
+        (cond t (Character (code_point_of (b ∷ take (length rs) bs)) (1 + length rs)) (Replaced (1 + common_prefix_len lies_in bs rs)))
     go true t =
-        let h = eqb-true (common_prefix_len within bs rs) (length rs) t in
+        let h = eqb-true (common_prefix_len lies_in bs rs) (length rs) t in
         let here = whole b bs rs e h in
-        let most = common_prefix_len-le within bs rs in
+        let most = common_prefix_len-le lies_in bs rs in
         record {
-          some = omega arith;
+          not_empty = omega arith;
           inside = omega arith;
-          scalar = scalar (b ∷ take (length rs) bs) here.well_formed;
-          told = subst (IsCharacter (b ∷ bs) (code_point_of (b ∷ take (length rs) bs))) (sym (one-add (length rs))) here;
+          scalar = scalar_from _ (scalar (b ∷ take (length rs) bs) here.well_formed);
+          kind = subst (IsCharacter (b ∷ bs) (code_point_of (b ∷ take (length rs) bs))) (sym (one-add (length rs))) here;
         }
     go false t =
-        let h = eqb-false (common_prefix_len within bs rs) (length rs) t in
-        let most = common_prefix_len-le within bs rs in
-        let l : common_prefix_len within bs rs < length rs = omega arith in
+        let h = eqb-false (common_prefix_len lies_in bs rs) (length rs) t in
+        let most = common_prefix_len-le lies_in bs rs in
+        let l : common_prefix_len lies_in bs rs < length rs = omega arith in
         record {
-          some = omega arith;
+          not_empty = omega arith;
           inside = omega arith;
-          scalar = omega arith;
-          told = subst (IsReplaced (b ∷ bs)) (sym (one-add (common_prefix_len within bs rs))) (cut b bs rs e l);
+          scalar = refl;
+          kind = subst (IsReplaced (b ∷ bs)) (sym (one-add (common_prefix_len lies_in bs rs))) (shorter_start b bs rs e l);
         }
 
 pub stands : (b : ℕ) (bs : List ℕ) → IsPart (b ∷ bs) (next_part b bs)
@@ -196,12 +205,12 @@ unfolding next_part part_by
 at_none b bs e = ap (λ o. Some (part_by b bs o)) e
 
 module _ (rs : List Range) (m : ℕ) where
-  part_some : (b : ℕ) (bs : List ℕ) → m ≡ common_prefix_len within bs rs → (t : Bool) → eqb m (length rs) ≡ t →
+  part_some : (b : ℕ) (bs : List ℕ) → m ≡ common_prefix_len lies_in bs rs → (t : Bool) → eqb m (length rs) ≡ t →
       part_by b bs (Some rs) ≡ cond t (Character (code_point_of (b ∷ take (length rs) bs)) (1 + length rs)) (Replaced (1 + m))
   unfolding part_by
   part_some b bs e t h = rw (← e, h)
 
-  pub at_some : (b : ℕ) (bs : List ℕ) → Some rs ≡ following_of table b → m ≡ common_prefix_len within bs rs → 1 + m ≡ 1 + length rs →
+  pub at_some : (b : ℕ) (bs : List ℕ) → Some rs ≡ following_of table b → m ≡ common_prefix_len lies_in bs rs → 1 + m ≡ 1 + length rs →
       (point : ℕ) → point ≡ code_point_of (take (1 + m) (b ∷ bs)) → Some (Character point (1 + m)) ≡ first_part (b ∷ bs)
   unfolding next_part
   at_some b bs e here t p q =
@@ -211,7 +220,7 @@ module _ (rs : List Range) (m : ℕ) where
       let fits : Character p (1 + m) ≡ Character (code_point_of (b ∷ take (length rs) bs)) (1 + length rs) = cc in
       ap Some (fits ∙ sym part ∙ ap (part_by b bs) e)
 
-  pub at_part : (b : ℕ) (bs : List ℕ) → Some rs ≡ following_of table b → m ≡ common_prefix_len within bs rs →
+  pub at_part : (b : ℕ) (bs : List ℕ) → Some rs ≡ following_of table b → m ≡ common_prefix_len lies_in bs rs →
       (1 + m ≡ 1 + length rs → ⊥) → Some (Replaced (1 + m)) ≡ first_part (b ∷ bs)
   unfolding next_part
   at_part b bs e here t = ap Some (sym (part_some b bs here false (ne_eqb m (length rs) (omega arith))) ∙ ap (part_by b bs) e)

@@ -2,4 +2,4 @@
 pub mod Table
 pub mod Standard
 pub mod Reader
-pub mod Left
+pub mod ToCome

@@ -1,5 +1,5 @@
 -- Table 3-7 of the Unicode Standard: the well-formed UTF-8 byte sequences.
-use Rattle.std.specs.Prelude.{ℕ, ◌≤◌, Bool, cond, ◌&&◌, ◌⊎◌, List, [], ◌∷◌, Some, None, Option, nat_le}
+use Rattle.std.specs.Prelude.{ℕ, ◌≤◌, Bool, if◌then◌else◌, ◌&&◌, ◌⊎◌, List, [], ◌∷◌, Some, None, Option, nat_le}
 use Rattle.characters.specs.declared.Range.{Range}
 
 infix 80 ◌to◌
@@ -14,9 +14,11 @@ pub record Row : Type 0 where
   pub first : Range
   pub rest : List Range
 
+-- a row of the table below: its code points from p to q, f for the first byte, r for those that follow
 abbrev pub row : ℕ → ℕ → Range → List Range → Row
 row p q f r = record { points_from = p; points_to = q; first = f; rest = r }
 
+-- the table, row by row
 abbrev pub table : List Row
 table =
     row 0x0000 0x007F (0x00 to 0x7F) [] ∷
@@ -31,29 +33,32 @@ table =
     []
 
 -- each byte lies in its range, and there are as many bytes as ranges
-abbrev pub EachWithin : List ℕ → List Range → Type 0
-EachWithin [] [] = Unit {0}
-EachWithin [] (r ∷ rs) = ⊥
-EachWithin (b ∷ bs) [] = ⊥
-EachWithin (b ∷ bs) (r ∷ rs) = ((r.low ≤ b) × (b ≤ r.high)) × EachWithin bs rs
+abbrev pub EachLiesIn : List ℕ → List Range → Type 0
+EachLiesIn [] [] = Unit {0}
+EachLiesIn [] (r ∷ rs) = ⊥
+EachLiesIn (b ∷ bs) [] = ⊥
+EachLiesIn (b ∷ bs) (r ∷ rs) = ((r.low ≤ b) × (b ≤ r.high)) × EachLiesIn bs rs
 
+-- the sequence's bytes lie in the row's ranges, each in its own
 abbrev pub Follows : List ℕ → Row → Type 0
-Follows s r = EachWithin s (r.first ∷ r.rest)
+Follows s r = EachLiesIn s (r.first ∷ r.rest)
 
 -- one of the rows has the property
 abbrev pub SomeRow : (Row → Type 0) → List Row → Type 0
 SomeRow P [] = ⊥
 SomeRow P (r ∷ rows) = P r ⊎ SomeRow P rows
 
+-- a well-formed sequence follows one of the rows
 abbrev pub WellFormed : List ℕ → Type 0
 WellFormed s = SomeRow (Follows s) table
 
 -- the same as tests
 
-abbrev pub within : ℕ → Range → Bool
-within b r = nat_le r.low b && nat_le b r.high
+-- the byte lies in the range
+abbrev pub lies_in : ℕ → Range → Bool
+lies_in b r = nat_le r.low b && nat_le b r.high
 
 -- the ranges that follow a first byte, if a row has it
 abbrev pub following_of : List Row → ℕ → Option (List Range)
 following_of [] b = None
-following_of (r ∷ rows) b = cond (within b r.first) (Some r.rest) (following_of rows b)
+following_of (r ∷ rows) b = if lies_in b r.first then Some r.rest else following_of rows b

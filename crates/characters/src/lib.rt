@@ -4,16 +4,16 @@
 ghost use Rattle.std.specs.Prelude.{◌≡◌, ◌≤◌, ◌++◌, length};
 ghost use Rattle.std.specs.Option.{option_map, option_to_list};
 ghost use Rattle.std.specs.List.{common_prefix_len};
-ghost use Rattle.characters.specs.Table.{following_of, table, within};
+ghost use Rattle.characters.specs.Table.{following_of, table, lies_in};
 ghost use Rattle.characters.specs.Standard.{code_point_of, point, size, Standard, Only};
-ghost use Rattle.characters.specs.Reader.{first_part, parts, Takes, Whole};
+ghost use Rattle.characters.specs.Reader.{first_part, parts, IsTaken, Whole};
 
 pub use sequence::Characters;
 
 mod sequence;
 
 /// What the front of a byte string gives.
-// A replaced part is told from a real U+FFFD, so both cases have a length: a struct with an optional code point would be no plainer.
+// A replaced part is kind from a real U+FFFD, so both cases have a length: a struct with an optional code point would be no plainer.
 #[derive(Clone, Copy, PartialEq, Eq, Debug)]
 pub enum Part {
     /// A well-formed sequence of so many bytes, and its code point.
@@ -81,7 +81,7 @@ const AFTER_F4: Range = Range {
 impl Range {
     // Whether the byte is one of the range.
     fn contains(&self, byte: u8) -> bool
-        ensures { result ≡ within byte self.now }
+        ensures { result ≡ lies_in byte self.now }
     {
         (self.low..=self.high).contains(&byte)
     }
@@ -106,7 +106,7 @@ fn following(first: u8) -> Option<&'static [Range]>
 
 // How many bytes at the front lie in the ranges, each in its own.
 fn matching(bytes: &[u8], ranges: &[Range]) -> usize
-    ensures value { result ≡ common_prefix_len within bytes.now ranges.now }
+    ensures value { result ≡ common_prefix_len lies_in bytes.now ranges.now }
     ensures bytes_bound { result ≤ length bytes.now }
     ensures ranges_bound { result ≤ length ranges.now }
 {
@@ -159,7 +159,7 @@ pub fn step(bytes: &[u8]) -> Option<Part>
 /// Takes the part at the front of `rest` off it: none, and nothing taken, if there are no bytes.
 pub fn take_part(rest: &mut &[u8]) -> Option<Part>
     ensures parts { parts rest.old.now ≡ option_to_list result ++ parts rest.new.now }
-    ensures taken { Takes rest.old.now result rest.new.now }
+    ensures taken { IsTaken rest.old.now result rest.new.now }
     ensures whole { Whole rest.old.now }
 {
     let part = step(rest)?;

@@ -1,7 +1,7 @@
 //! The characters of a byte string, one after another.
 ghost use Rattle.std.specs.Prelude.{◌≡◌};
 ghost use Rattle.std.specs.Iterator.{YieldsFirst, item_count};
-ghost use Rattle.characters.specs.Left.{parts_left};
+ghost use Rattle.characters.specs.ToCome.{parts_to_come};
 ghost use Rattle.characters.specs.Reader.{parts};
 
 use super::{Part, take_part};
@@ -16,7 +16,7 @@ pub struct Characters<'a> {
 impl<'a> Characters<'a> {
     /// The parts of `bytes`.
     pub fn of(bytes: &'a [u8]) -> Characters<'a>
-        ensures { parts_left result ≡ parts bytes.now }
+        ensures { parts_to_come result ≡ parts bytes.now }
     {
         Characters { rest: bytes }
     }
@@ -25,9 +25,9 @@ impl<'a> Characters<'a> {
 impl<'a> Iterator for Characters<'a> {
     type Item = Part;
 
-    ghost next_gives = { YieldsFirst parts_left };
+    ghost next_gives = { YieldsFirst parts_to_come };
 
-    ghost remaining = { item_count parts_left };
+    ghost remaining = { item_count parts_to_come };
 
     fn next(&mut self) -> Option<Part> {
         take_part(&mut self.rest)

@@ -1,7 +1,7 @@
 -- The definitions that the contracts cite.
-pub mod Words
+pub mod Keys
 pub mod Pairs
 pub mod Refusal
 -- Lemmas that the laws in src/ cite: they are proved, and nothing in them has to be believed.
-pub mod Alike
-pub mod Listing
+pub mod LayerLemmas
+pub mod PairLemmas

@@ -1,13 +1,11 @@
--- What declaring a pair answers, and which pairs are declared then.
-use Rattle.std.specs.Prelude.{ℕ, cond, ◌||◌, List, [], ◌∷◌, ◌++◌, length, Ok, Err, codes, Result, nat_le, nat_lt}
+-- What declaring a pair answers, as a number or none, and which pairs are declared then.
+use Rattle.std.specs.Prelude.{ℕ, if◌then◌else◌, ◌||◌, List, [], ◌∷◌, ◌++◌, length, Ok, Err, Some, None, Option, codes, Result, nat_le, nat_lt}
 use Rattle.filesystems.specs.declared.refusal.DeclareError.{DeclareError}
 use Rattle.filesystems.specs.declared.refusal.DeclareError.TheVariants.{ComponentTooLong, TooManyPairs}
+use Rattle.filesystems.specs.declared.storage.TheConstants.{LONGEST, MOST}
 use Rattle.filesystems.specs.Pairs.{Pairs}
 
-pub data Answer : Type 0 where
-  accepted : Answer
-  refused : ℕ → Answer
-
+-- the number of an error
 abbrev pub number_of : DeclareError → ℕ
 number_of ComponentTooLong = 33
 number_of TooManyPairs = 44
@@ -17,16 +15,18 @@ abbrev pub text_of : DeclareError → List ℕ
 text_of ComponentTooLong = codes "a declared name is longer than 32 bytes"
 text_of TooManyPairs = codes "16 pairs of names are already declared"
 
-abbrev pub answer_of : Result (Unit {0}) DeclareError → Answer
-answer_of (Ok u) = accepted
-answer_of (Err e) = refused (number_of e)
+-- the number of the refusal, if the answer is one
+abbrev pub refusal_of : Result (Unit {0}) DeclareError → Option ℕ
+refusal_of (Ok u) = None
+refusal_of (Err e) = Some (number_of e)
 
--- 33 for a component longer than 32 bytes, then 44 when 16 pairs are already declared
-abbrev pub declare_rule : Pairs → List ℕ → List ℕ → Answer
+-- 33 for a component longer than LONGEST bytes, then 44 when MOST pairs are already declared
+abbrev pub declare_rule : Pairs → List ℕ → List ℕ → Option ℕ
 declare_rule pairs left right =
-    cond (nat_lt 32 (length left) || nat_lt 32 (length right)) (refused 33) (cond (nat_le 16 (length pairs)) (refused 44) accepted)
+    if nat_lt LONGEST (length left) || nat_lt LONGEST (length right) then Some 33
+    else if nat_le MOST (length pairs) then Some 44 else None
 
--- accepted, the pair is added; refused, nothing is altered
-abbrev pub pairs_after : Answer → Pairs → List ℕ → List ℕ → Pairs
-pairs_after accepted pairs left right = pairs ++ (left, right) ∷ []
-pairs_after (refused n) pairs left right = pairs
+-- with no refusal the pair is added, and else nothing is altered
+abbrev pub pairs_after : Option ℕ → Pairs → List ℕ → List ℕ → Pairs
+pairs_after None pairs left right = pairs ++ (left, right) ∷ []
+pairs_after (Some n) pairs left right = pairs

@@ -10,7 +10,9 @@ mod storage;
 
 pub use interface::FileSystem;
 pub use layers::Layer;
-pub use piles::{FullPile, MacPile, all_protections, mac_and_windows};
+pub use piles::{
+    AllProtections, HfsOverNtfs, WindowsPile, all_protections, hfs_over_ntfs, windows_pile,
+};
 pub use plain_bottom::PlainBottom;
 pub use refusal::DeclareError;
 pub use storage::DeclaredBottom;

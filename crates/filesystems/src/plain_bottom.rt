@@ -1,10 +1,8 @@
 //! The file system below all layers: the plain protection, and equal bytes lie together.
-ghost use Rattle.std.specs.Prelude.{◌≡◌, [], ◌∷◌, Decides};
-ghost use Rattle.protections.specs.Words.{equals};
-ghost use Rattle.protections.specs.Rules.{plain_rule};
-ghost use Rattle.filesystems.specs.Words.{bytes_key};
-ghost use Rattle.filesystems.specs.Alike.{equals_sym, none_empty, equals_from, under};
-ghost use Rattle.std.proofs.Common.{inl, inr};
+ghost use Rattle.std.specs.Prelude.{◌≡◌, ℕ, ◌↔◌, List, [], ◌∷◌, Option, IsTrue, bytes_eq};
+ghost use Rattle.protections.specs.Rules.{numbered, plain_rule};
+ghost use Rattle.filesystems.specs.Keys.{bytes_key};
+ghost use Rattle.filesystems.specs.LayerLemmas.{bytes_eq_sym, none_empty, only_member, bytes_eq_from, under};
 
 use crate::interface::FileSystem;
 use protections::{Mode, Plain, Protection, Verdict};
@@ -14,24 +12,34 @@ use protections::{Mode, Plain, Protection, Verdict};
 pub struct PlainBottom;
 
 impl FileSystem for PlainBottom {
-    ghost judged = { λ _ s mode. plain_rule s mode };
+    ghost verdict_of = { λ _ s mode. plain_rule s mode };
 
-    ghost together = { λ _ a b. equals a b };
+    ghost together = { λ _ a b. bytes_eq a b };
 
     ghost keys = { λ _. bytes_key ∷ [] };
 
-    ghost symmetric = { λ f a b e. equals_sym a b e };
+    ghost symmetric = { λ f a b e. bytes_eq_sym a b e };
 
-    ghost keyed = { λ f. (none_empty _ _, λ key a b m e. elim m [ inl p ↦ equals_from a b (under (λ s. s) key a b p e) | inr z ↦ absurd z ]) };
+    ghost equal_keys_together = { λ f. (
+      none_empty _ _,
+      λ key a b m e. bytes_eq_from a b (under (λ s. s) key a b (only_member bytes_key key m) e),
+    ) };
 
-    fn verdict(&self, component: &[u8], mode: Option<Mode>) -> Option<Verdict> {
+    fn verdict(&self, component: &[u8], mode: Option<Mode>) -> Option<Verdict>
+        ensures value { numbered result ≡ plain_rule component.now mode }
+        ensures verdicts { (s : List ℕ) (m : Option Mode)
+            → ⟦<PlainBottom as FileSystem>⟧.verdict_of self.now s m ≡ plain_rule s m }
+    {
         Plain.verdict(component, mode)
     }
 
-    #[tactic(auto, using(crate::proofs::Same::pointwise_equals))]
+    #[tactic(auto, using(crate::proofs::Same::pointwise_bytes_eq))]
     fn lie_together(&self, left: &[u8], right: &[u8]) -> bool
-        ensures value { result ≡ equals left.now right.now }
-        ensures decides { Decides result (left.now ≡ right.now) }
+        ensures value { result ≡ bytes_eq left.now right.now }
+        ensures decides { IsTrue result ↔ (left.now ≡ right.now) }
+        ensures confuses { (a b : List ℕ)
+            → IsTrue (⟦<PlainBottom as FileSystem>⟧.together self.now a b) ↔ (a ≡ b) }
+        ensures compares { ⟦<PlainBottom as FileSystem>⟧.keys self.now ≡ bytes_key ∷ [] }
     {
         left == right
     }

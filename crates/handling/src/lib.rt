@@ -1,7 +1,7 @@
 //! A list of texts, one to a line, turned into handles: the report as a value.
 #![tactic(auto)]
 
-ghost use Rattle.std.specs.Prelude.{◌≡◌, ◌≤◌, ◌+◌, [], ◌∷◌, ◌++◌, IfOk, string_bytes, codes, decimal, length, OnOk};
+ghost use Rattle.std.specs.Prelude.{◌≡◌, ◌≤◌, ◌+◌, [], ◌++◌, IfOk, string_bytes, codes, decimal, length, OnOk};
 ghost use Rattle.mending.specs.Mender.{mended};
 ghost use Rattle.reference.specs.Names.{partial_name};
 ghost use Rattle.handling.specs.Report.{kept_by, line_of, report_of, summary};
@@ -10,7 +10,7 @@ use lines::Lines;
 use std::alloc::{AllocError, Global};
 
 /// The handle that a text is mended to.
-// The mender writes to a caller's buffer and answers a length, a fixed form (docs/DECISIONS.md): so the vector is cut to that
+// The mender writes to a caller's buffer and answers a length, a fixed form (docs/DECISIONS.md): so the vector is shortened to that
 // length here.
 pub fn handle(heap: Global, text: &[u8]) -> Result<Vec<u8>, AllocError>
     ensures { IfOk result (λ v. v.items ≡ mended text.now) }
@@ -50,7 +50,8 @@ impl Draft {
 
     /// Adds a line: these words, and then these bytes.
     fn push_line(&mut self, words: &str, bytes: &[u8]) -> Result<(), AllocError>
-        ensures bytes { OnOk result (self.new.bytes.items ≡ self.old.bytes.items ++ (words.now ++ (bytes.now ++ 10 ∷ []))) }
+        ensures bytes { OnOk result (self.new.bytes.items
+            ≡ self.old.bytes.items ++ (words.now ++ (bytes.now ++ codes "\n"))) }
         ensures lines { OnOk result (self.new.lines ≡ self.old.lines + 1) }
         ensures kept { self.new.kept ≡ self.old.kept }
     {
@@ -64,7 +65,9 @@ impl Draft {
 
     /// Adds the line of a text that is mended since it was refused by this number.
     fn add_mended(&mut self, number: u8, text: &[u8]) -> Result<(), AllocError>
-        ensures bytes { OnOk result (self.new.bytes.items ≡ self.old.bytes.items ++ (codes "mended " ++ (decimal number ++ (32 ∷ (mended text.now ++ 10 ∷ []))))) }
+        ensures bytes { OnOk result (self.new.bytes.items
+            ≡ self.old.bytes.items ++ (codes "mended " ++ (decimal number
+            ++ (codes " " ++ (mended text.now ++ codes "\n"))))) }
         ensures lines { OnOk result (self.new.lines ≡ self.old.lines + 1) }
         ensures kept { self.new.kept ≡ self.old.kept }
     {
@@ -76,9 +79,11 @@ impl Draft {
 
     /// Adds the line of a text.
     fn add_line(&mut self, text: &[u8]) -> Result<(), AllocError>
-        ensures bytes { OnOk result (self.new.bytes.items ≡ self.old.bytes.items ++ line_of text.now) }
+        ensures bytes { OnOk result (self.new.bytes.items
+            ≡ self.old.bytes.items ++ line_of text.now) }
         ensures lines { OnOk result (self.new.lines ≡ self.old.lines + 1) }
-        ensures kept { OnOk result (self.new.kept ≡ self.old.kept + kept_by (partial_name text.now)) }
+        ensures kept { OnOk result (self.new.kept
+            ≡ self.old.kept + kept_by (partial_name text.now)) }
     {
         match reference::name_partial(text) {
             Ok(_) => {

@@ -1,11 +1,12 @@
 -- The lines of a text are what they are meant to be.
-use Rattle.std.proofs.Common.{◌≡◌, ℕ, ◌<◌, List, [], ◌∷◌, length, drop, sym, refl, ap, subst, inl, inr, ⊎_elim, arith}
+use Rattle.std.proofs.Common.{◌≡◌, ℕ, zero, suc, ◌<◌, All, Contains, List, [], ◌∷◌, length, drop, sym, refl, ap, subst, inl, inr, ⊎_elim, arith}
 use Rattle.std.specs.Prelude.{slice_index}
 use Rattle.std.proofs.lemmas.List.{length-append}
 use Rattle.std.proofs.lemmas.Bool.{cases_eq, eq-eqb, ne_eqb}
-use Rattle.tag.specs.Components.{Among, onto}
-use Rattle.tag.specs.Manual.{Ends}
-use Rattle.lines.specs.Lines.{lines, Joins, Free, Lined}
+use Rattle.tag.specs.Components.{onto}
+use Rattle.tag.specs.Fronts.{Ends}
+use Rattle.tag.proofs.Members.{Among, among_contains}
+use Rattle.lines.specs.Lines.{AreLines, Joins, lines}
 
 -- A byte in front of a text with bytes leaves its end as it is.
 no_end : (b : ℕ) (s : List ℕ) → 0 < length s → (Ends (10 ∷ []) s → ⊥) → Ends (10 ∷ []) (b ∷ s) → ⊥
@@ -41,6 +42,10 @@ joins (b ∷ (d ∷ s)) =
     (λ n. rw (ne_eqb b 10 n) (onto_joins b d s (lines (d ∷ s)) r))
     (cases_eq b 10)
 
+-- None holds a newline.
+abbrev Free : List (List ℕ) → Type 0
+Free ls = (l : List ℕ) → Among l ls → Among 10 l → ⊥
+
 free_end : (ls : List (List ℕ)) → Free ls → Free ([] ∷ ls)
 free_end ls f l (inl e) h = subst (Among 10) e h
 free_end ls f l (inr m) h = f l m h
@@ -61,5 +66,10 @@ free (b ∷ s) =
     (λ n. rw (ne_eqb b 10 n) (free_onto b n (lines s) r))
     (cases_eq b 10)
 
-pub lined : (s : List ℕ) → Lined s (lines s)
-lined s = (free s, joins s)
+newline_free : (ls : List (List ℕ)) → Free ls → All (λ l. ¬ Contains l 10) ls
+newline_free [] f k d less = absurd (omega arith)
+newline_free (l ∷ ls) f zero d less = λ c. f l (inl refl) (among_contains l 10 c)
+newline_free (l ∷ ls) f (suc k) d less = newline_free ls (λ m h. f m (inr h)) k d (omega arith)
+
+pub are_lines : (s : List ℕ) → AreLines s (lines s)
+are_lines s = record { joins = joins s; newline_free = newline_free (lines s) (free s) }

@@ -1,7 +1,8 @@
 -- Answers that hold parts of a line as byte strings, and one that is pointed to as an outcome.
+-- Contracts of private functions cite these, and no public one.
 use Rattle.std.specs.Prelude.{ℕ, List, Result}
 use Rattle.std.specs.Borrow.{Bor}
-use Rattle.claims.specs.Calls.{Outcome}
+use Rattle.register_model.specs.Calls.{Outcome}
 use Rattle.register.specs.Faults.{outcome_of}
 use Rattle.register.specs.declared.faults.Fault.{Fault}
 

@@ -1,89 +1,83 @@
 -- The report of a list of lines: what came of each, and the names that are kept then.
-use Rattle.std.specs.Prelude.{ℕ, cond, List, [], ◌∷◌, ◌++◌, length, Some, None, codes, decimal, Option, nat_le}
-use Rattle.std.specs.List.{flat_map}
+use Rattle.std.specs.Prelude.{ℕ, if◌then◌else◌, Bool, true, false, List, [], ◌∷◌, ◌++◌, map, length, Some, None, is_some, codes, decimal, Option, nat_le}
+use Rattle.std.specs.List.{filter_map, flat_map}
 use Rattle.protections.specs.declared.rules.Mode.{Mode}
 use Rattle.lines.specs.Lines.{lines}
-use Rattle.claims.specs.Calls.{Call, Kept, Meaning, Outcome, number_of}
-use Rattle.claims.specs.Calls.Outcome.{accepted, declined}
-use Rattle.claims.specs.Entries.{Entry}
-use Rattle.claims.specs.Claim.{Claim, OffersClaim}
-use Rattle.claims.specs.Histories.{answers, entries_left, history}
+use Rattle.register_model.specs.Calls.{Call, Kept, Meaning, Outcome, State, no_entries, number_of}
+use Rattle.register_model.specs.Calls.Outcome.{accepted, declined}
+use Rattle.register_model.specs.Entries.{Entry}
+use Rattle.register_model.specs.Claim.{Done}
+use Rattle.register_model.specs.Histories.{answers, history, state_left}
 use Rattle.runs.specs.Campus.{campus}
+use Rattle.listing.specs.declared.TheConstants.{LONGEST_INPUT}
 use Rattle.listing.specs.Reading.{read_line}
 
--- The calls among these lines.
-abbrev pub onto_calls : Option Call → List Call → List Call
-onto_calls None cs = cs
-onto_calls (Some c) cs = c ∷ cs
+-- Of each of these lines, whether it is a call.
+abbrev pub are_calls : List (List ℕ) → List Bool
+are_calls ls = map (λ l. is_some (read_line l)) ls
 
-unfoldable pub calls_in : List (List ℕ) → List Call
-calls_in [] = []
-calls_in (l ∷ ls) = onto_calls (read_line l) (calls_in ls)
+-- The calls among these lines.
+abbrev pub calls_in : List (List ℕ) → List Call
+calls_in ls = filter_map read_line ls
 
 -- The report's line for an answer.
 abbrev pub answer_line : Outcome → List ℕ
-answer_line (accepted p) = codes "ok" ++ 10 ∷ []
-answer_line (declined f) = codes "refused " ++ (decimal (number_of f) ++ 10 ∷ [])
+answer_line (accepted p) = codes "ok\n"
+answer_line (declined f) = codes "refused " ++ (decimal (number_of f) ++ codes "\n")
 
+-- The report's line for a line that is no call.
 abbrev pub unread_line : List ℕ
-unread_line = codes "unread" ++ 10 ∷ []
+unread_line = codes "unread\n"
 
--- The report's line for the answer of a line's call, if there is one.
+-- The report's line for the answer of a line's call, if there is one; private functions alone cite it.
 abbrev pub line_for : Option Outcome → List ℕ
 line_for None = unread_line
 line_for (Some o) = answer_line o
 
--- The answer of a line that is such a call, if any: it is the first that is left. And those that are left after it.
-abbrev pub first_answer : Option Call → List Outcome → Option Outcome
-first_answer None os = None
-first_answer (Some c) [] = None
-first_answer (Some c) (o ∷ os) = Some o
-
-abbrev pub answers_after : Option Call → List Outcome → List Outcome
-answers_after None os = os
-answers_after (Some c) [] = []
-answers_after (Some c) (o ∷ os) = os
-
--- The report's lines for these lines, from the answers of their calls.
-unfoldable pub answer_lines : List (List ℕ) → List Outcome → List ℕ
+-- The report's lines for lines of which each is a call or is not, from the answers of the calls: each call has the first one
+-- that is left.
+unfoldable pub answer_lines : List Bool → List Outcome → List ℕ
 answer_lines [] os = []
-answer_lines (l ∷ ls) os = line_for (first_answer (read_line l) os) ++ answer_lines ls (answers_after (read_line l) os)
+answer_lines (false ∷ bs) os = unread_line ++ answer_lines bs os
+answer_lines (true ∷ bs) [] = unread_line ++ answer_lines bs []
+answer_lines (true ∷ bs) (o ∷ os) = answer_line o ++ answer_lines bs os
 
 -- The report's line for an entry.
 abbrev pub entry_line : Entry (Option Mode) → List ℕ
-entry_line e = decimal e.number ++ (32 ∷ (e.name ++ 10 ∷ []))
+entry_line e = decimal e.number ++ (codes " " ++ (e.name ++ codes "\n"))
 
 -- A word and a count, on a line.
 abbrev pub count_line : List ℕ → ℕ → List ℕ
-count_line word n = word ++ (32 ∷ (decimal n ++ 10 ∷ []))
+count_line word n = word ++ (codes " " ++ (decimal n ++ codes "\n"))
 
--- The report for these lines, the answers of their calls and the entries that are kept.
-abbrev pub report_for : List (List ℕ) → List Outcome → Kept → List ℕ
-report_for ls os es =
-    count_line (codes "answers") (length ls) ++ (answer_lines ls os ++ (count_line (codes "names") (length es) ++ flat_map entry_line es))
+-- The report for lines of which each is a call or is not, the answers of the calls and the entries that are kept.
+abbrev pub report_for : List Bool → List Outcome → Kept → List ℕ
+report_for bs os es =
+    count_line (codes "answers") (length bs) ++ (answer_lines bs os
+    ++ (count_line (codes "names") (length es) ++ flat_map entry_line es))
 
--- The calls among the lines of an input, made one by one from the entries es on: their answers, and the entries that they leave.
-abbrev pub answers_to : Meaning → Kept → List ℕ → List Outcome
-answers_to m es s = answers m es (calls_in (lines s))
+-- The answers of the calls among the lines of an input, made one by one from the state s on.
+abbrev pub answers_to : Meaning → State → List ℕ → List Outcome
+answers_to m s input = answers m s (calls_in (lines input))
 
-abbrev pub left_by : Meaning → Kept → List ℕ → Kept
-left_by m es s = entries_left m es (calls_in (lines s))
+-- The state that they leave.
+abbrev pub left_by : Meaning → State → List ℕ → State
+left_by m s input = state_left m s (calls_in (lines input))
 
 -- The report of them.
-abbrev pub report_from : Meaning → Kept → List ℕ → List ℕ
-report_from m es s = report_for (lines s) (answers_to m es s) (left_by m es s)
+abbrev pub report_from : Meaning → State → List ℕ → List ℕ
+report_from m s input =
+    report_for (are_calls (lines input)) (answers_to m s input) (left_by m s input).kept
 
--- The claim holds of them, and what is promised of offers.
-abbrev pub ClaimHolds : Meaning → Kept → List ℕ → Type 0
-ClaimHolds m es s = Claim m (history (calls_in (lines s)) (answers_to m es s)) (left_by m es s)
-
-abbrev pub OffersHold : Meaning → Kept → List ℕ → Type 0
-OffersHold m es s = OffersClaim m (history (calls_in (lines s)) (answers_to m es s))
+-- They and their answers, the latest first.
+abbrev pub history_of : Meaning → State → List ℕ → List Done
+history_of m s input = history (calls_in (lines input)) (answers_to m s input)
 
 -- What is written for an input that is too long.
 abbrev pub too_long : List ℕ
-too_long = codes "too long" ++ 10 ∷ []
+too_long = codes "too long\n"
 
--- The report for an input of at most 16,384 bytes; a longer one is not read.
+-- The report for an input. One of more bytes than are taken is not listed.
 unfoldable pub report_of : List ℕ → List ℕ
-report_of s = cond (nat_le (length s) 16384) (report_from campus [] s) too_long
+report_of s =
+    if nat_le (length s) LONGEST_INPUT then report_from campus no_entries s else too_long

@@ -1,20 +1,17 @@
 //! The report of answers and kept names, as bytes.
-ghost use Rattle.std.specs.Prelude.{◌≡◌, ◌++◌, Option, map, length, IfOk, OnOk};
+ghost use Rattle.std.specs.Prelude.{◌≡◌, ◌++◌, Option, map, IfOk, OnOk};
 ghost use Rattle.std.specs.List.{flat_map};
 ghost use Rattle.std.specs.Option.{option_map};
-ghost use Rattle.lines.specs.Lines.{lines};
 ghost use Rattle.register.specs.Faults.{outcome_of};
 ghost use Rattle.register.specs.Registers.{entries_in};
 ghost use Rattle.register.specs.Shown.{shown};
 ghost use Rattle.listing.specs.Report.{answer_lines, count_line, entry_line, report_for, line_for};
 ghost use Rattle.listing.specs.Parts.{outcome_at};
 
-use crate::lines_read::read_line;
 use filesystems::FileSystem;
-use lines::Lines;
 use register::{Entry, Register};
-use rulebooks::{MendingRulebook, Rulebook};
-use runs::{Answer, Call, audit};
+use rulebooks::Rulebook;
+use runs::{Answer, audit};
 use std::alloc::{AllocError, Global};
 
 /// The report so far.
@@ -34,7 +31,8 @@ impl Draft {
 
     /// Adds a word and a count, on a line.
     fn add_count(&mut self, word: &str, count: usize) -> Result<(), AllocError>
-        ensures { OnOk result (self.new.bytes.items ≡ self.old.bytes.items ++ count_line word.now count) }
+        ensures { OnOk result (self.new.bytes.items
+            ≡ self.old.bytes.items ++ count_line word.now count) }
     {
         let line = format!(in *self.bytes.allocator(); "{word} {count}\n")?;
         self.push_words(line.as_str())
@@ -42,7 +40,8 @@ impl Draft {
 
     /// Adds the line of an answer, or where there is none, of a line that is no call.
     fn add_answer(&mut self, answer: Option<&Answer>) -> Result<(), AllocError>
-        ensures { OnOk result (self.new.bytes.items ≡ self.old.bytes.items ++ line_for (option_map outcome_at answer.entry)) }
+        ensures { OnOk result (self.new.bytes.items
+            ≡ self.old.bytes.items ++ line_for (option_map outcome_at answer.entry)) }
     {
         match answer {
             Some(Ok(_)) => self.push_words("ok\n"),
@@ -54,17 +53,14 @@ impl Draft {
         }
     }
 
-    /// Adds the lines of what came of each line of the input, from the answers of the calls among them.
-    fn add_answers(&mut self, input: &[u8], answers: &[Answer]) -> Result<(), AllocError>
-        ensures { OnOk result (self.new.bytes.items ≡ self.old.bytes.items ++ answer_lines (lines input.now) (map outcome_of answers.now)) }
+    /// Adds the lines of what came of each line of an input, from whether each is a call and the answers of the calls.
+    fn add_answers(&mut self, are_calls: &[bool], answers: &[Answer]) -> Result<(), AllocError>
+        ensures { OnOk result (self.new.bytes.items
+            ≡ self.old.bytes.items ++ answer_lines are_calls.now (map outcome_of answers.now)) }
     {
         let mut left = answers.iter();
-        for line in Lines::of(input) {
-            // A `match`, as `and_then(|_| left.next())` would take the next answer out of sight, within a closure.
-            let answer = match read_line(line) {
-                Some(_) => left.next(),
-                None => None,
-            };
+        for is_call in are_calls {
+            let answer = if *is_call { left.next() } else { None };
             self.add_answer(answer)?;
         }
         Ok(())
@@ -72,7 +68,8 @@ impl Draft {
 
     /// Adds the line of an entry.
     fn add_entry(&mut self, entry: Entry<'_>) -> Result<(), AllocError>
-        ensures { OnOk result (self.new.bytes.items ≡ self.old.bytes.items ++ entry_line (shown entry.entry)) }
+        ensures { OnOk result (self.new.bytes.items
+            ≡ self.old.bytes.items ++ entry_line (shown entry.entry)) }
     {
         let number = format!(in *self.bytes.allocator(); "{} ", entry.number)?;
         self.push_words(number.as_str())?;
@@ -86,7 +83,8 @@ impl Draft {
         &mut self,
         register: &Register<R, F>,
     ) -> Result<(), AllocError>
-        ensures { OnOk result (self.new.bytes.items ≡ self.old.bytes.items ++ flat_map entry_line (entries_in register.now)) }
+        ensures { OnOk result (self.new.bytes.items
+            ≡ self.old.bytes.items ++ flat_map entry_line (entries_in register.now)) }
     {
         for entry in register.entries() {
             self.add_entry(entry)?;
@@ -95,28 +93,22 @@ impl Draft {
     }
 }
 
-/// How many lines an input has.
-fn count_lines(input: &[u8]) -> usize
-    ensures { result ≡ length (lines input.now) }
-{
-    Lines::of(input).count()
-}
-
-/// The report for an input, the answers of the calls among its lines, and a register after them.
-pub fn write_report<R: MendingRulebook, F: FileSystem>(
+/// The report for the lines of an input, from whether each is a call and the answers of the calls, and for a register after them.
+pub fn write_report<R: Rulebook, F: FileSystem>(
     heap: Global,
-    input: &[u8],
+    are_calls: &[bool],
     answers: &[Answer],
     register: &Register<R, F>,
 ) -> Result<Vec<u8>, AllocError>
-    ensures { IfOk result (λ v. v.items ≡ report_for (lines input.now) (map outcome_of answers.now) (entries_in register.now)) }
+    ensures { IfOk result (λ v. v.items
+        ≡ report_for are_calls.now (map outcome_of answers.now) (entries_in register.now)) }
 {
     let mut report = Draft {
         bytes: Vec::new(heap),
     };
-    report.add_count("answers", count_lines(input))?;
-    report.add_answers(input, answers)?;
-    report.add_count("names", audit::<R, F, Call<'_>>(register))?;
+    report.add_count("answers", are_calls.len())?;
+    report.add_answers(are_calls, answers)?;
+    report.add_count("names", audit(register))?;
     report.add_entries(register)?;
     Ok(report.bytes)
 }

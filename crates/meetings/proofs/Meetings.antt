@@ -6,7 +6,8 @@ use Rattle.std.proofs.lemmas.List.{append-nil, append_assoc}
 use Rattle.std.proofs.lemmas.Bool.{both_ways, cases_Bool, cases_eq, cond-false, cond-true, eq-eqb, ne_eqb}
 use Rattle.tag.specs.Components.{components, joined, onto}
 use Rattle.tag.proofs.Parts.{joined_components, split}
-use Rattle.meetings.specs.Meeting.{GoesOn, Meets, Starts, keys_under, meet, meet_parts}
+use Rattle.meetings.specs.Meeting.{GoesOn, Meets, keys_under, meet, meet_parts}
+use Rattle.tag.specs.Fronts.{Begins}
 
 -- A name has at least one component.
 pub some_component : (s : List ℕ) → components s ≡ [] → ⊥
@@ -37,7 +38,7 @@ joined_append (c ∷ (e ∷ cs)) ds n m =
     ∙ sym (append_assoc c (47 ∷ joined (e ∷ cs)) (47 ∷ joined ds))
 
 -- The components of x begin those of y exactly where y is x or goes on after it.
-starts_from : (x y : List ℕ) → (x ≡ y) ⊎ GoesOn x y → Starts (components x) (components y)
+starts_from : (x y : List ℕ) → (x ≡ y) ⊎ GoesOn x y → Begins (components x) (components y)
 starts_from x y (inl e) = ([], ap components (sym e) ∙ sym (append-nil (components x)))
 starts_from x y (inr g) = (components g.0, ap components g.1 ∙ components_append x g.0)
 
@@ -114,11 +115,11 @@ module _ (together : List ℕ → List ℕ → Bool) where
     lie = p.lie;
   }
 
-  starts_more : (xs ys : List (List ℕ)) (c : List ℕ) → Starts xs ys → Starts (c ∷ xs) (c ∷ ys)
+  starts_more : (xs ys : List (List ℕ)) (c : List ℕ) → Begins xs ys → Begins (c ∷ xs) (c ∷ ys)
   starts_more xs ys c p = (p.0, ap (λ t. c ∷ t) p.1)
 
   -- In words: one list begins the other, or they part.
-  met_words : {xs ys : List (List ℕ)} → Met xs ys → Starts xs ys ⊎ (Starts ys xs ⊎ Parted xs ys)
+  met_words : {xs ys : List (List ℕ)} → Met xs ys → Begins xs ys ⊎ (Begins ys xs ⊎ Parted xs ys)
   met_words (left_ends {ys}) = inl (ys, refl)
   met_words (right_ends {xs}) = inr (inl (xs, refl))
   met_words (differ {a} {b} {xs} {ys} n t) =
@@ -190,5 +191,5 @@ module _ (together : List ℕ → List ℕ → Bool) where
         (cases_Bool (bytes_eq x y))
 
     -- Where the list of keys of x begins that of y, the names meet.
-    pub starts_meets : (x y : List ℕ) → Starts (keys_under key x) (keys_under key y) → Meets together x y
+    pub starts_meets : (x y : List ℕ) → Begins (keys_under key x) (keys_under key y) → Meets together x y
     starts_meets x y s = meets_from x y (met_keys (components x) (components y) s.0 s.1)

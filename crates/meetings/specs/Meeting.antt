@@ -1,11 +1,11 @@
--- When two names meet: both would fall on one file of a replica, or one would need a file of the other for a folder.
-use Rattle.std.specs.Prelude.{◌≡◌, ℕ, Bool, true, cond, ◌⊎◌, List, [], ◌∷◌, ◌++◌, map}
-use Rattle.std.specs.Str.{bytes_eq}
+-- When two names meet, where `together` says which components lie together.
+use Rattle.std.specs.Prelude.{◌≡◌, ℕ, Bool, true, if◌then◌else◌, ◌⊎◌, List, [], ◌∷◌, ◌++◌, map, bytes_eq, IsTrue, ◌≢◌}
+use Rattle.std.specs.Str.{byte}
 use Rattle.tag.specs.Components.{components}
 
 -- The name y goes on after x with a slash.
 abbrev pub GoesOn : List ℕ → List ℕ → Type 0
-GoesOn x y = (rest : List ℕ) × (y ≡ x ++ 47 ∷ rest)
+GoesOn x y = (rest : List ℕ) × (y ≡ x ++ byte "/" ∷ rest)
 
 -- a and b are the first components in which x and y differ: the components before them are the same.
 pub record FirstDiffer (x y a b : List ℕ) : Type 0 where
@@ -14,19 +14,23 @@ pub record FirstDiffer (x y a b : List ℕ) : Type 0 where
   pub rest_y : List (List ℕ)
   pub of_x : components x ≡ front ++ a ∷ rest_x
   pub of_y : components y ≡ front ++ b ∷ rest_y
-  pub differ : a ≡ b → ⊥
+  pub differ : a ≢ b
 
 -- Two names meet when they are equal, when one goes on after the other with a slash, or when the first components in which
 -- they differ lie together.
 abbrev pub Meets : (List ℕ → List ℕ → Bool) → List ℕ → List ℕ → Type 0
 Meets together x y =
-    (x ≡ y) ⊎ (GoesOn x y ⊎ (GoesOn y x ⊎ ((a : List ℕ) × (b : List ℕ) × FirstDiffer x y a b × (together a b ≡ true))))
+    (x ≡ y)
+    ⊎ (GoesOn x y
+    ⊎ (GoesOn y x
+    ⊎ ((a : List ℕ) × (b : List ℕ) × FirstDiffer x y a b × IsTrue (together a b))))
 
 -- The same as a test, on lists of components.
 unfoldable pub meet_parts : (List ℕ → List ℕ → Bool) → List (List ℕ) → List (List ℕ) → Bool
 meet_parts together [] ys = true
 meet_parts together (x ∷ xs) [] = true
-meet_parts together (x ∷ xs) (y ∷ ys) = cond (bytes_eq x y) (meet_parts together xs ys) (together x y)
+meet_parts together (x ∷ xs) (y ∷ ys) =
+    if bytes_eq x y then meet_parts together xs ys else together x y
 
 unfoldable pub meet : (List ℕ → List ℕ → Bool) → List ℕ → List ℕ → Bool
 meet together x y = meet_parts together (components x) (components y)
@@ -34,7 +38,3 @@ meet together x y = meet_parts together (components x) (components y)
 -- Under a key, a name's list of keys has the key of each of its components.
 abbrev pub keys_under : (List ℕ → List ℕ) → List ℕ → List (List ℕ)
 keys_under key x = map key (components x)
-
--- The list xs begins the list ys; a list also begins an equal one.
-abbrev pub Starts : List (List ℕ) → List (List ℕ) → Type 0
-Starts xs ys = (rest : List (List ℕ)) × (ys ≡ xs ++ rest)

@@ -1,7 +1,7 @@
 //! When two names meet on a file system.
 #![tactic(auto)]
 
-ghost use Rattle.std.specs.Prelude.{◌≡◌, Decides};
+ghost use Rattle.std.specs.Prelude.{◌≡◌, ◌↔◌, IsTrue};
 ghost use Rattle.meetings.specs.Meeting.{Meets, meet};
 
 use filesystems::FileSystem;
@@ -11,7 +11,7 @@ use tag::components::Components;
 /// lie together.
 pub fn meets<F: FileSystem>(files: &F, left: &[u8], right: &[u8]) -> bool
     ensures test { result ≡ meet (F.FileSystem.together files.now) left.now right.now }
-    ensures words { Decides result (Meets (F.FileSystem.together files.now) left.now right.now) }
+    ensures words { IsTrue result ↔ Meets (F.FileSystem.together files.now) left.now right.now }
 {
     Components::of(left)
         .zip(Components::of(right))

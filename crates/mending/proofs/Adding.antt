@@ -1,12 +1,12 @@
 -- Adding a component to the text.
-use Rattle.std.proofs.Common.{◌≡◌, ℕ, zero, suc, ◌+◌, ◌-◌, ◌<◌, ◌≤◌, List, [], ◌∷◌, ◌++◌, length, get_or, take, drop, sym, refl, ap, ◌∙◌, inl, inr, arith, length-append}
+use Rattle.std.proofs.Common.{◌≡◌, ℕ, ◌+◌, ◌-◌, ◌<◌, ◌≤◌, List, [], ◌∷◌, ◌++◌, length, take, drop, sym, ap, ◌∙◌, arith, length-append}
 use borrow.Rule.Slice.PartMut.{put_mid}
 use lib.Seq.{take-append-add}
 use Rattle.std.proofs.lemmas.List.{append_assoc, drop_at, length-take-le, take_at, take-append-le}
 use Rattle.std.proofs.lemmas.Bool.{ne_eqb}
 use Rattle.std.proofs.lemmas.Bool.Decides.{nat_tests}
-use Rattle.tag.specs.Components.{Among, joined}
-use Rattle.mending.specs.Mender.{clean, cut, heal}
+use Rattle.tag.specs.Components.{joined}
+use Rattle.mending.specs.Mender.{mended_component, without_lock, replaced}
 use Rattle.mending.specs.Steps.{add, gap}
 use Rattle.mending.specs.Texts.{SameBuffer}
 use Rattle.mending.specs.declared.text.Text.{Text}
@@ -15,33 +15,27 @@ use Rattle.mending.specs.declared.text.Text.{Text}
 pub same_buffer : (a b c : Text) → SameBuffer a b → SameBuffer b c → SameBuffer a c
 same_buffer a b c h k = (k.0 ∙ h.0, k.1 ∙ h.1)
 
--- The byte at an index is among the bytes.
-pub among_index : (s : List ℕ) (i : ℕ) → i < length s → Among (get_or s i 0) s
-among_index [] i h = absurd (omega arith)
-among_index (b ∷ s) zero h = inl refl
-among_index (b ∷ s) (suc i) h = inr (among_index s i (omega arith))
-
 pub gap_bounds : (n : ℕ) → (n ≤ gap n) × (gap n ≤ n + 1)
 gap_bounds n = (grind (arith, nat_tests), grind (arith, nat_tests))
 
 pub gap_more : (n : ℕ) → 0 < n → gap n ≡ n + 1
 gap_more n h = rw (ne_eqb n 0 (λ e. omega arith))
 
--- Behind a text, the healed bytes of a component are cut.
-pub cleaned : (text all left c : List ℕ) (start : ℕ) → length text ≡ start → all ≡ text ++ heal 47 c
-    → left ≡ take start all ++ cut (drop start all) → left ≡ text ++ clean c
-unfolding clean
-cleaned text all left c start n h k =
-    rw (h, take_at text (heal 47 c) start n, drop_at text (heal 47 c) start n) at k
+-- Behind a text, .lock is taken off the replaced bytes of a component.
+pub mended_behind : (text all left c : List ℕ) (start : ℕ) → length text ≡ start → all ≡ text ++ replaced 47 c
+    → left ≡ take start all ++ without_lock (drop start all) → left ≡ text ++ mended_component c
+unfolding mended_component
+mended_behind text all left c start n h k =
+    rw (h, take_at text (replaced 47 c) start n, drop_at text (replaced 47 c) start n) at k
 
 -- A component that has a byte is the first, or is added to a text with a slash before it.
-pub adds_first : (left c : List ℕ) → 0 < length c → left ≡ clean c → left ≡ add [] c
+pub adds_first : (left c : List ℕ) → 0 < length c → left ≡ mended_component c → left ≡ add [] c
 adds_first left c h k = rw (ne_eqb (length c) 0 (λ e. omega arith)) k
 
-pub adds_more : (text left c : List ℕ) → 0 < length c → 0 < length text → left ≡ (text ++ 47 ∷ []) ++ clean c → left ≡ add text c
+pub adds_more : (text left c : List ℕ) → 0 < length c → 0 < length text → left ≡ (text ++ 47 ∷ []) ++ mended_component c → left ≡ add text c
 adds_more text left c h l k =
     rw (ne_eqb (length c) 0 (λ e. omega arith), ne_eqb (length text) 0 (λ e. omega arith))
-    (k ∙ append_assoc text (47 ∷ []) (clean c))
+    (k ∙ append_assoc text (47 ∷ []) (mended_component c))
 
 -- A buffer of n bytes has room for these components behind a text of e bytes, if any is left.
 abbrev pub Room : List (List ℕ) → ℕ → ℕ → Type 0

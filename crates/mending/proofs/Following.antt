@@ -3,7 +3,7 @@ use Rattle.std.proofs.Common.{◌≡◌, ℕ, suc, ◌-◌, ◌<◌, List, [], �
 use Rattle.std.proofs.lemmas.Bool.Decides.{nat_tests}
 use Rattle.tag.specs.Answers.Answer.{allowed}
 use Rattle.tag.specs.Bytes.{last_byte}
-use Rattle.tag.specs.Names.{pair}
+use Rattle.tag.specs.Names.{fault_after}
 use Rattle.tag.proofs.Sound.{Follows}
 
 -- The last byte of s, and a where s has none.
@@ -32,17 +32,17 @@ last_or_get_d a b [] = refl
 last_or_get_d a b (c ∷ s) = last_or_get_d b c s
 
 -- Where there is a byte, `last_or` is the last byte.
-last_or_byte : (a b : ℕ) (s : List ℕ) → last_or a (b ∷ s) ≡ last_byte (b ∷ s)
+pub last_or_byte : (a b : ℕ) (s : List ℕ) → last_or a (b ∷ s) ≡ last_byte (b ∷ s)
 last_or_byte a b s =
     let n : length s ≡ suc (length s) - 1 = omega arith in
     last_or_get_d a b s ∙ ap (λ k. get_or (b ∷ s) k 0) n
 
 -- A slash may follow s if s has a byte and the last is no slash.
-pub slash_after : (s : List ℕ) → (s ≡ [] → ⊥) → (last_byte s ≡ 47 → ⊥) → pair (last_or 47 s) 47 ≡ allowed
+pub slash_after : (s : List ℕ) → (s ≡ [] → ⊥) → (last_byte s ≡ 47 → ⊥) → fault_after (last_or 47 s) 47 ≡ allowed
 slash_after [] some n = absurd (some refl)
 slash_after (b ∷ s) some n = let e = last_or_byte 47 b s in grind (arith, nat_tests)
 
 -- And only then.
-pub slash_after_only : (s : List ℕ) → pair (last_or 47 s) 47 ≡ allowed → (0 < length s) × (last_byte s ≡ 47 → ⊥)
+pub slash_after_only : (s : List ℕ) → fault_after (last_or 47 s) 47 ≡ allowed → (0 < length s) × (last_byte s ≡ 47 → ⊥)
 slash_after_only [] h = absurd (grind (arith, nat_tests))
 slash_after_only (b ∷ s) h = let e = last_or_byte 47 b s in (omega arith, λ k. grind (arith, nat_tests))

@@ -6,15 +6,15 @@ use Rattle.std.proofs.lemmas.List.{append_assoc, append_cancel_right, length-app
 use Rattle.std.proofs.lemmas.Bool.{eqb-true, eqb-false, cond_both, cond-false}
 use Rattle.std.proofs.lemmas.Bool.Decides.{nat_tests}
 use Rattle.tag.specs.Answers.Answer.{allowed}
-use Rattle.tag.specs.Components.{onto, components, joined, Among}
-use Rattle.tag.specs.Names.{pair}
-use Rattle.tag.proofs.Members.{all_from_each}
+use Rattle.tag.specs.Components.{onto, components, joined}
+use Rattle.tag.specs.Names.{fault_after}
+use Rattle.tag.proofs.Members.{Among, all_from_each}
 use Rattle.tag.proofs.Parts.{slash_free}
 use Rattle.tag.proofs.Sound.{Follows, Unlocked}
-use Rattle.mending.specs.Mender.{clean, filled}
+use Rattle.mending.specs.Mender.{mended_component, nonempty}
 use Rattle.mending.proofs.Following.{last_or, follows_append, follows_front, follows_rest, slash_after, slash_after_only}
-use Rattle.mending.proofs.Healed.{Slashless}
-use Rattle.mending.proofs.Cleaned.{Part, Whole, clean_whole, clean_short, clean_same}
+use Rattle.mending.proofs.Replaced.{Slashless}
+use Rattle.mending.proofs.MendedComponents.{Part, Whole, mended_component_whole, mended_component_short, mended_component_same}
 use Rattle.mending.proofs.Locking.{unlocked_after, unlocked_before, unlocked_over, unlocked_past}
 
 -- Each component with a slash after it.
@@ -56,34 +56,34 @@ components_slashless s =
     (λ c m. all_from_each (λ b. b ≡ 47 → ⊥) c (λ b k e. slash_free s c m (subst (λ x. Among x c) e k)))
 
 -- The mended components are those of a sound name.
-pub filled_whole : (cs : List (List ℕ)) → AllByRecursion Slashless cs → AllByRecursion Whole (map clean (filled cs))
-unfolding filled
-filled_whole [] h = tt
-filled_whole (c ∷ cs) h =
-    cond_both (eqb (length c) 0) (filled cs) (c ∷ filled cs) (λ l. AllByRecursion Whole (map clean l))
-    (λ _. filled_whole cs h.1)
-    (λ e. let n = eqb-false (length c) 0 e in (clean_whole c h.0 (omega arith), filled_whole cs h.1))
+pub nonempty_whole : (cs : List (List ℕ)) → AllByRecursion Slashless cs → AllByRecursion Whole (map mended_component (nonempty cs))
+unfolding nonempty
+nonempty_whole [] h = tt
+nonempty_whole (c ∷ cs) h =
+    cond_both (eqb (length c) 0) (nonempty cs) (c ∷ nonempty cs) (λ l. AllByRecursion Whole (map mended_component l))
+    (λ _. nonempty_whole cs h.1)
+    (λ e. let n = eqb-false (length c) 0 e in (mended_component_whole c h.0 (omega arith), nonempty_whole cs h.1))
 
 -- Mending makes them no longer.
-pub filled_short :
-    (cs : List (List ℕ)) → AllByRecursion Slashless cs → length (closed (map clean (filled cs))) ≤ length (closed cs)
-unfolding filled
-filled_short [] h = omega arith
-filled_short (c ∷ cs) h =
-    let rest = filled_short cs h.1 in
-    let here = clean_short c h.0 in
-    cond_both (eqb (length c) 0) (filled cs) (c ∷ filled cs) (λ l. length (closed (map clean l)) ≤ length (closed (c ∷ cs)))
+pub nonempty_short :
+    (cs : List (List ℕ)) → AllByRecursion Slashless cs → length (closed (map mended_component (nonempty cs))) ≤ length (closed cs)
+unfolding nonempty
+nonempty_short [] h = omega arith
+nonempty_short (c ∷ cs) h =
+    let rest = nonempty_short cs h.1 in
+    let here = mended_component_short c h.0 in
+    cond_both (eqb (length c) 0) (nonempty cs) (c ∷ nonempty cs) (λ l. length (closed (map mended_component l)) ≤ length (closed (c ∷ cs)))
     (λ _. simp length-append (omega arith)) (λ _. simp length-append (omega arith))
 
 -- The components of a sound name are left as they are.
-pub filled_same : (cs : List (List ℕ)) → AllByRecursion Whole cs → map clean (filled cs) ≡ cs
-unfolding filled
-filled_same [] h = refl
-filled_same (c ∷ cs) h =
+pub nonempty_same : (cs : List (List ℕ)) → AllByRecursion Whole cs → map mended_component (nonempty cs) ≡ cs
+unfolding nonempty
+nonempty_same [] h = refl
+nonempty_same (c ∷ cs) h =
     let some = h.0.part.some in
     let e : eqb (length c) 0 ≡ false = grind (arith, nat_tests) in
-    ap (map clean) (cond-false (eqb (length c) 0) (filled cs) (c ∷ filled cs) e)
-    ∙ (λ i. clean_same c h.0 i ∷ filled_same cs h.1 i)
+    ap (map mended_component) (cond-false (eqb (length c) 0) (nonempty cs) (c ∷ nonempty cs) e)
+    ∙ (λ i. mended_component_same c h.0 i ∷ nonempty_same cs h.1 i)
 
 -- Joined components have one slash less.
 pub joined_short : (cs : List (List ℕ)) → length (joined cs) ≤ length (closed cs) - 1
@@ -92,7 +92,7 @@ joined_short [] = omega arith
 joined_short (c ∷ cs) = omega (arith, length_push (joined (c ∷ cs)) 47, ap length (joined_closed c cs))
 
 -- A slash may follow a component.
-slash_follows : (c : List ℕ) → Part c → pair (last_or 47 c) 47 ≡ allowed
+slash_follows : (c : List ℕ) → Part c → fault_after (last_or 47 c) 47 ≡ allowed
 slash_follows c p =
     let some = p.some in
     slash_after c (λ e. omega (arith, ap length e)) (All-get_or _ c (length c - 1) 0 (omega arith) p.slashless)

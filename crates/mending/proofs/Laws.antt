@@ -10,10 +10,10 @@ use Rattle.tag.specs.Bytes.{last_byte, ends_in_lock}
 use Rattle.tag.specs.Components.{components, joined}
 use Rattle.tag.proofs.Reading.{last_byte_push}
 use Rattle.tag.proofs.Sound.{Follows, Unlocked, Sound}
-use Rattle.mending.specs.Mender.{clean, filled, dash_end, dash_alone, mended}
+use Rattle.mending.specs.Mender.{mended_component, nonempty, dash_end, dash_alone, mended}
 use Rattle.mending.proofs.Following.{follows_append, follows_front, follows_rest, slash_after, slash_after_only}
-use Rattle.mending.proofs.Cleaned.{Whole}
-use Rattle.mending.proofs.Joining.{joined_closed, components_closed, joined_from, components_slashless, filled_whole, filled_short, filled_same, joined_short, whole_follows, whole_unlocked, whole_from}
+use Rattle.mending.proofs.MendedComponents.{Whole}
+use Rattle.mending.proofs.Joining.{joined_closed, components_closed, joined_from, components_slashless, nonempty_whole, nonempty_short, nonempty_same, joined_short, whole_follows, whole_unlocked, whole_from}
 
 -- A name and a slash after it: the slash may follow the name's last byte, and no .lock stands before it.
 abbrev Closes : List ℕ → Type 0
@@ -74,7 +74,7 @@ one_dash_sound : Sound (45 ∷ [])
 one_dash_sound = dash_sound [] 45 (refl, tt) (λ _. refl, refl)
 
 -- A byte written over the last one stands after the front.
-set_last : (s : List ℕ) (b : ℕ) → 0 < length s → set s (length s - 1) b ≡ take (length s - 1) s ++ b ∷ []
+pub set_last : (s : List ℕ) (b : ℕ) → 0 < length s → set s (length s - 1) b ≡ take (length s - 1) s ++ b ∷ []
 set_last s b h =
     set_split s (length s - 1) b (omega arith)
     ∙ ap (λ l. take (length s - 1) s ++ b ∷ l) (drop_all (suc (length s - 1)) s (omega arith))
@@ -109,7 +109,7 @@ finished (c ∷ cs) h =
 pub mended_sound : (s : List ℕ) → Sound (mended s)
 unfolding mended
 mended_sound s =
-    finished (map clean (filled (components s))) (filled_whole (components s) (components_slashless s))
+    finished (map mended_component (nonempty (components s))) (nonempty_whole (components s) (components_slashless s))
 
 -- A text that no dash stands for is not @
 left_not_at : (s : List ℕ) → alone s ≡ false → bytes_eq s (codes "@") ≡ false
@@ -127,7 +127,7 @@ not_at_left (b ∷ (c ∷ s)) some h = grind (arith, nat_tests)
 pub mended_not_at : (s : List ℕ) → bytes_eq (mended s) (codes "@") ≡ false
 unfolding mended
 mended_not_at s =
-    let t = dash_end (joined (map clean (filled (components s)))) in
+    let t = dash_end (joined (map mended_component (nonempty (components s)))) in
     cond_both (alone t) (45 ∷ []) t (λ u. bytes_eq u (codes "@") ≡ false) (λ _. refl) (left_not_at t)
 
 -- A dash for a last dot leaves the length as it is.
@@ -150,9 +150,9 @@ mended_short s =
     let cs = components s in
     omega (
       arith,
-      dash_short (joined (map clean (filled cs))),
-      joined_short (map clean (filled cs)),
-      filled_short cs (components_slashless s),
+      dash_short (joined (map mended_component (nonempty cs))),
+      joined_short (map mended_component (nonempty cs)),
+      nonempty_short cs (components_slashless s),
       ap length (components_closed s),
       length_push s 47,
     )
@@ -164,6 +164,6 @@ sound_unchanged s h n =
     let closes = sound_closes s h in
     let e = components_closed s in
     let whole = whole_from (components s) (components_slashless s) (rw e closes.0) (rw e closes.1) in
-    ap (λ t. dash_alone (dash_end t)) (ap joined (filled_same (components s) whole) ∙ joined_from (components s) s e)
+    ap (λ t. dash_alone (dash_end t)) (ap joined (nonempty_same (components s) whole) ∙ joined_from (components s) s e)
     ∙ ap dash_alone (cond-false (eqb (last_byte s) 46) (set s (length s - 1) 45) s (ne_eqb (last_byte s) 46 h.no_dot_last))
     ∙ cond-false (alone s) (45 ∷ []) s (not_at_left s h.some n)

@@ -1,12 +1,13 @@
 -- The lemmas on the mender.
 pub mod Following
-pub mod Healing
-pub mod Healed
-pub mod Cutting
-pub mod Cleaned
+pub mod Replacing
+pub mod Replaced
+pub mod WithoutLock
+pub mod MendedComponents
 pub mod Locking
 pub mod Joining
 pub mod Laws
+pub mod MendsText
 pub mod Adding
 pub mod Ending
 pub mod Filling

@@ -4,7 +4,7 @@ use Rattle.std.proofs.lemmas.List.{append-nil, append_assoc}
 use Rattle.tag.specs.Bytes.{ends_in_lock}
 use Rattle.tag.proofs.Locks.{lock_after_slash}
 use Rattle.tag.proofs.Sound.{Unlocked}
-use Rattle.mending.proofs.Healed.{Slashless}
+use Rattle.mending.proofs.Replaced.{Slashless}
 
 -- What stands before a slash does not matter.
 after_slash : (p x : List ℕ) → ends_in_lock ((p ++ 47 ∷ []) ++ x) ≡ ends_in_lock x
@@ -27,7 +27,7 @@ unlocked_alike p q (b ∷ s) e h = (
       (λ x. rw (append_assoc p (b ∷ []) x, append_assoc q (b ∷ []) x) (e (b ∷ x))) h.1,
 )
 
--- What stands after a slash is judged as if nothing stood before it.
+-- For what stands after a slash, it is as if nothing stood before it.
 pub unlocked_after : (p s : List ℕ) → Unlocked [] s → Unlocked (p ++ 47 ∷ []) s
 unlocked_after p s h = unlocked_alike [] (p ++ 47 ∷ []) s (λ x. sym (after_slash p x)) h
 

@@ -1,4 +1,4 @@
--- The text that is being made in a buffer.
+-- The text that is being made in a buffer. Only private functions cite these definitions: no public contract rests on them.
 use Rattle.std.specs.Prelude.{◌≡◌, ℕ, List, length, take}
 use Rattle.mending.specs.declared.text.Text.{Text}
 
@@ -8,4 +8,6 @@ text_of t = take t.end t.buffer.now
 
 -- Both stand in the same buffer, which keeps its length.
 abbrev pub SameBuffer : Text → Text → Type 0
-SameBuffer a b = (b.buffer.ghost_name ≡ a.buffer.ghost_name) × (length b.buffer.now ≡ length a.buffer.now)
+SameBuffer a b =
+    (b.buffer.ghost_name ≡ a.buffer.ghost_name)
+    × (length b.buffer.now ≡ length a.buffer.now)

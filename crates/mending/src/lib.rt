@@ -1,11 +1,12 @@
 //! The mender: makes a handle, an allowed partial name, of any bytes, in a caller's buffer.
 #![tactic(auto)]
 
-ghost use Rattle.std.specs.Prelude.{◌≡◌, ℕ, ◌-◌, ◌++◌, length, replicate, ◌≢◌};
-ghost use Rattle.std.specs.Option.{option_to_list};
+ghost use Rattle.std.specs.Prelude.{◌≡◌, ℕ, ◌-◌, List, ◌++◌, length, take, replicate, IfOk, ◌≢◌, option_to_list};
+ghost use Rattle.std.specs.Str.{byte};
 ghost use Rattle.tag.specs.Scanning.{after};
-ghost use Rattle.mending.specs.Errors.{number as number_of, outcome_of};
-ghost use Rattle.mending.specs.Mender.{buffer_after, healed, mended, outcome, room};
+ghost use Rattle.mending.specs.Errors.{number_of};
+ghost use Rattle.mending.specs.Mender.{buffer_after, length_or_error, mended, replacement, room};
+ghost use Rattle.mending.specs.Mends.{Mends};
 
 use tag::components::Components;
 use tag::scanner::Scanner;
@@ -32,12 +33,13 @@ impl Error {
 
 /// What stands for the next byte of a component, if anything: a byte with no fault stays, a dot after a dot vanishes, and
 /// a byte with any other fault becomes a dash.
-fn mended_byte(scanner: &mut Scanner, byte: u8) -> Option<u8>
-    ensures moves { scanner.new ≡ after byte }
-    ensures mends { (a : ℕ) → scanner.old ≡ after a → (byte ≢ 47) → option_to_list result ≡ healed a byte }
+fn mended_byte(scanner: &mut Scanner, next_byte: u8) -> Option<u8>
+    ensures moves { scanner.new ≡ after next_byte }
+    ensures mends { (a : ℕ) → scanner.old ≡ after a → next_byte ≢ byte "/"
+        → option_to_list result ≡ replacement a next_byte }
 {
-    match scanner.step(byte) {
-        Ok(()) => Some(byte),
+    match scanner.step(next_byte) {
+        Ok(()) => Some(next_byte),
         Err(tag::Error::RepeatedDot) => None,
         Err(_) => Some(b'-'),
     }
@@ -60,8 +62,10 @@ fn fill_room(input: &[u8], front: &mut [u8]) -> usize
 /// Mends `input` into the front of the buffer, and answers the length of the text there. The bytes after it become zero, up
 /// to the length of the input and at least one; later bytes stay. A shorter buffer is refused and stays as it was.
 pub fn mend(input: &[u8], out: &mut [u8]) -> Result<usize, Error>
-    ensures answer { outcome_of result ≡ outcome input.now (length out.old) }
-    ensures buffer { out.new ≡ buffer_after input.now out.old }
+    ensures answer { result ≡ length_or_error (mended input.now) input.now (length out.old) }
+    ensures buffer { out.new ≡ buffer_after (mended input.now) input.now out.old }
+    ensures mends { IfOk result (λ n. Mends input.now (take n out.new)) }
+    ensures no_other { IfOk result (λ n. (t : List ℕ) → Mends input.now t → t ≡ take n out.new) }
 {
     let needed = input.len().max(1);
     // With `get_mut` and `ok_or` the proof of what the whole buffer holds did not close.

@@ -1,7 +1,7 @@
 //! The text that the mender makes, at the front of a caller's buffer.
-ghost use Rattle.std.specs.Prelude.{◌≡◌, ◌+◌, ◌-◌, ◌<◌, ◌≤◌, [], ◌∷◌, ◌++◌, length, drop, take, replicate};
-ghost use Rattle.tag.specs.Components.{Among};
-ghost use Rattle.mending.specs.Mender.{cut, dash_alone, dash_end, heal};
+ghost use Rattle.std.specs.Prelude.{◌≡◌, ◌+◌, ◌-◌, ◌<◌, ◌≤◌, [], ◌∷◌, ◌++◌, length, drop, take, replicate, Contains};
+ghost use Rattle.std.specs.Str.{byte};
+ghost use Rattle.mending.specs.Mender.{without_lock, dash_alone, dash_end, replaced};
 ghost use Rattle.mending.specs.Steps.{add, gap, wants_dash};
 
 use super::mended_byte;
@@ -15,12 +15,12 @@ fn wants_dash(text: &[u8]) -> bool
     matches!(text, [.., b'.'] | b"@")
 }
 
-/// Writes the bytes of a component, each healed, to the front of the buffer, and answers how many these are.
+/// Writes the bytes of a component, each replaced, to the front of the buffer, and answers how many these are.
 // It writes through the slice, since `push` for each byte was measured to take nearly twice as long.
-fn write_healed(component: &[u8], out: &mut [u8]) -> usize
-    requires slash_free { Among 47 component.now → ⊥ }
+fn write_replaced(component: &[u8], out: &mut [u8]) -> usize
+    requires slash_free { ¬ Contains component.now (byte "/") }
     requires room { length component.now ≤ length out.old }
-    ensures writes { take result out.new ≡ heal 47 component.now }
+    ensures writes { take result out.new ≡ replaced (byte "/") component.now }
     ensures bound { result ≤ length component.now }
 {
     let mut scanner = Scanner::AfterSlash;
@@ -74,23 +74,25 @@ impl<'a> Text<'a> {
         self.end += 1;
     }
 
-    /// Adds the bytes of a component, each healed.
-    fn push_healed(&mut self, component: &[u8])
-        requires slash_free { Among 47 component.now → ⊥ }
+    /// Adds the bytes of a component, each replaced.
+    fn push_replaced(&mut self, component: &[u8])
+        requires slash_free { ¬ Contains component.now (byte "/") }
         requires room { self.old.end + length component.now ≤ length self.old.buffer.now }
         ensures keeps { SameBuffer self.old self.new }
-        ensures adds { text_of self.new ≡ text_of self.old ++ heal 47 component.now }
-        ensures bound { (self.old.end ≤ self.new.end) × (self.new.end ≤ self.old.end + length component.now) }
+        ensures adds { text_of self.new ≡ text_of self.old ++ replaced (byte "/") component.now }
+        ensures bound { (self.old.end ≤ self.new.end)
+            × (self.new.end ≤ self.old.end + length component.now) }
     {
-        self.end += write_healed(component, &mut self.buffer[self.end..]);
+        self.end += write_replaced(component, &mut self.buffer[self.end..]);
     }
 
-    /// Cuts `.lock` from the end of what stands from `start` on, as often as it is there.
-    fn cut_locks(&mut self, start: usize)
+    /// Takes `.lock` off the end of what stands from `start` on, as often as it is there.
+    fn drop_locks(&mut self, start: usize)
         requires { start ≤ self.old.end }
         ensures keeps { SameBuffer self.old self.new }
         ensures bound { self.new.end ≤ self.old.end }
-        ensures cuts { text_of self.new ≡ take start (text_of self.old) ++ cut (drop start (text_of self.old)) }
+        ensures drops { text_of self.new
+            ≡ take start (text_of self.old) ++ without_lock (drop start (text_of self.old)) }
     {
         // Five bytes are what `ends_in_lock` finds there; `strip_suffix` would spell `.lock` a second time.
         while ends_in_lock(&self.bytes()[start..]) {
@@ -100,7 +102,7 @@ impl<'a> Text<'a> {
 
     /// Adds a component, mended, with a slash before it unless it is the first. An empty one adds nothing.
     pub(crate) fn push_component(&mut self, component: &[u8])
-        requires slash_free { Among 47 component.now → ⊥ }
+        requires slash_free { ¬ Contains component.now (byte "/") }
         requires room { gap self.old.end + length component.now ≤ length self.old.buffer.now }
         ensures keeps { SameBuffer self.old self.new }
         ensures adds { text_of self.new ≡ add (text_of self.old) component.now }
@@ -113,8 +115,8 @@ impl<'a> Text<'a> {
             self.push(b'/');
         }
         let start = self.end;
-        self.push_healed(component);
-        self.cut_locks(start);
+        self.push_replaced(component);
+        self.drop_locks(start);
     }
 
     /// Mends the ends of the text: a dash for a last dot, and for a text that is empty or `@`.
@@ -133,7 +135,8 @@ impl<'a> Text<'a> {
     /// Clears what the text leaves of the buffer, and answers the text's length.
     pub(crate) fn finish(self) -> usize
         ensures value { result ≡ length (text_of self.entry) }
-        ensures cleared { self.exit.0.now ≡ text_of self.entry ++ replicate (length self.entry.buffer.now - result) 0 }
+        ensures cleared { self.exit.0.now
+            ≡ text_of self.entry ++ replicate (length self.entry.buffer.now - result) 0 }
     {
         let Text { buffer, end } = self;
         buffer[end..].fill(0);

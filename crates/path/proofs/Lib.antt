@@ -1,2 +1,3 @@
 -- The lemmas that the proofs share.
-mod Spared
+mod ByNeed
+mod FirstRefusal

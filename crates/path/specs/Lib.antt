@@ -1,3 +1,4 @@
 -- The definitions that the contracts cite.
 pub mod Answer
+pub mod Order
 pub mod Rule

@@ -1,14 +1,14 @@
 //! Whether a path component is safe to write into a working tree.
 #![tactic(auto)]
 
-ghost use Rattle.std.specs.Prelude.{◌≡◌, true, ◌&&◌, IfOk, Some, Decides};
-ghost use Rattle.std.specs.List.{ContainsAt as Has};
+ghost use Rattle.std.specs.Prelude.{◌≡◌, ◌↔◌, ◌&&◌, IfOk, Some, IsTrue, Contains};
 ghost use Rattle.protections.specs.Keys.{device_key};
 ghost use Rattle.protections.specs.Names.{devices};
-ghost use Rattle.protections.specs.Rules.{numbered, plain_rule, is_device};
-ghost use Rattle.protections.specs.Rules.{number_of as verdict_number};
-ghost use Rattle.path.specs.Answer.{answer_of, number_of, text_of};
-ghost use Rattle.path.specs.Rule.{if_on, verdict_before, is_relative, component_rule, component_rule_sparing};
+ghost use Rattle.protections.specs.Rules.{numbered, verdict_number, plain_rule, is_device};
+ghost use Rattle.path.specs.Answer.{refusal_of, number_of, text_of};
+ghost use Rattle.tag.specs.Components.{is_relative};
+ghost use Rattle.path.specs.Order.{IsFirstRefusal};
+ghost use Rattle.path.specs.Rule.{if_on, verdict_before, component_rule, component_rule_by_need};
 
 pub use protections::Mode;
 use protections::{
@@ -106,7 +106,8 @@ impl Options {
 
 // All are on, where a derive would turn all off.
 impl Default for Options {
-    ghost is_default = { λ o. (o.protect_windows ≡ true) × (o.protect_hfs ≡ true) × (o.protect_ntfs ≡ true) };
+    ghost is_default = { λ o.
+        IsTrue o.protect_windows × IsTrue o.protect_hfs × IsTrue o.protect_ntfs };
 
     fn default() -> Options {
         Options {
@@ -124,7 +125,7 @@ fn asked<P: Protection>(
     input: &[u8],
     mode: Option<Mode>,
 ) -> Option<Verdict>
-    ensures { numbered result ≡ if_on on (P.Protection.judged protection.now input.now mode) }
+    ensures { numbered result ≡ if_on on (P.Protection.verdict_of protection.now input.now mode) }
 {
     if on {
         protection.verdict(input, mode)
@@ -135,7 +136,7 @@ fn asked<P: Protection>(
 
 // The first verdict of the protections that are on.
 #[tactic(auto, unfolding(crate::specs::Rule::verdict_before))]
-fn judge(input: &[u8], mode: Option<Mode>, options: Options) -> Option<Verdict>
+fn first_verdict(input: &[u8], mode: Option<Mode>, options: Options) -> Option<Verdict>
     ensures { numbered result ≡ verdict_before input.now mode options (plain_rule input.now mode) }
 {
     asked(options.protect_windows, &WindowsNames, input, mode)
@@ -153,11 +154,13 @@ fn relative(input: &[u8]) -> bool
 }
 
 /// The component itself, if the protections that are on let it pass.
-#[tactic(auto, using(crate::proofs::Spared::spared), unfolding(crate::specs::Rule::component_rule))]
+#[tactic(auto, using(crate::proofs::ByNeed::by_need, crate::proofs::FirstRefusal::first_refused), unfolding(crate::specs::Rule::component_rule))]
 pub fn component(input: &[u8], mode: Option<Mode>, options: Options) -> Result<&[u8], Error>
-    ensures answer { answer_of result ≡ component_rule input.now mode options }
+    ensures answer { refusal_of result ≡ component_rule input.now mode options }
+    ensures first { IsFirstRefusal input.now mode options (refusal_of result) }
     ensures view { IfOk result (λ v. v ≡ input.entry) }
-    ensures plain_spared { component_rule input.now mode options ≡ component_rule_sparing input.now mode options }
+    ensures plain_by_need { component_rule input.now mode options
+        ≡ component_rule_by_need input.now mode options }
 {
     if input.is_empty() {
         return Err(Error::Empty);
@@ -168,13 +171,13 @@ pub fn component(input: &[u8], mode: Option<Mode>, options: Options) -> Result<&
     if input.contains(&b'/') {
         return Err(Error::PathSeparator);
     }
-    judge(input, mode, options).map_or(Ok(input), |verdict| Err(Error::from(verdict)))
+    first_verdict(input, mode, options).map_or(Ok(input), |verdict| Err(Error::from(verdict)))
 }
 
-/// Whether Windows takes the component for a device, as `CON` or `LPT1`.
+/// Whether the component's device key is one of the listed names, as of `CON` or `LPT1`.
 pub fn component_is_windows_device(input: &[u8]) -> bool
     ensures value { result ≡ is_device input.now }
-    ensures decides { Decides result (Has devices (device_key input.now)) }
+    ensures decides { IsTrue result ↔ Contains devices (device_key input.now) }
 {
     // No name of a device is shorter. The test is made here too, since without it one byte takes half as long again.
     if input.len() < 3 {

@@ -5,12 +5,12 @@ use Rattle.std.proofs.lemmas.Bool.Decides.{nat_tests}
 use Rattle.characters.proofs.Ascii.{ascii_points}
 use Rattle.protections.specs.declared.rules.Mode.{Mode}
 use Rattle.protections.specs.declared.rules.Mode.TheVariants.{Symlink}
-use Rattle.protections.specs.Words.{equals}
-use Rattle.protections.specs.Keys.{lowered, before, trimmed, ignored, hfs_key, ntfs_key}
-use Rattle.protections.specs.Ends.{colon, space_dot, before_lowered, trimmed_lowered}
+use Rattle.std.specs.Prelude.{bytes_eq}
+use Rattle.protections.specs.Keys.{lowered, until_any, trimmed, is_passed_over, hfs_key, ntfs_key}
+use Rattle.protections.specs.EndLemmas.{colon, space_dot, until_any_lowered, trimmed_lowered}
 use Rattle.protections.specs.Names.{git, modules}
-use Rattle.protections.specs.Rules.{linked, hfs_rule, ntfs_rule, plain_rule}
-use Rattle.protections.proofs.Equal.{equals_true}
+use Rattle.protections.specs.Rules.{is_symlink, hfs_rule, ntfs_rule, plain_rule}
+use Rattle.protections.proofs.Equal.{bytes_eq-true}
 
 -- HFS+: a name of bytes below 0x80 has its small letters for its key
 
@@ -18,10 +18,10 @@ ascii_from : (s : List ℕ) → AllByRecursion (λ b. b < 128) (lowered s) → A
 ascii_from [] h = tt
 ascii_from (b ∷ s) h = (let l = h.0 in grind (arith, nat_tests), ascii_from s h.1)
 
-shown : (b : ℕ) → b < 128 → ignored b ≡ false
+shown : (b : ℕ) → b < 128 → is_passed_over b ≡ false
 shown b h = grind (arith, nat_tests)
 
-all_shown : (s : List ℕ) → AllByRecursion (λ b. b < 128) s → filter (λ c. not (ignored c)) s ≡ s
+all_shown : (s : List ℕ) → AllByRecursion (λ b. b < 128) s → filter (λ c. not (is_passed_over c)) s ≡ s
 all_shown [] h = refl
 all_shown (b ∷ s) h = rw (shown b h.0, all_shown s h.1)
 
@@ -29,23 +29,23 @@ hfs_plain : (s : List ℕ) → AllByRecursion (λ b. b < 128) (lowered s) → hf
 unfolding hfs_key
 hfs_plain s h =
     let low = ascii_from s h in
-    ap (λ t. lowered (filter (λ c. not (ignored c)) t)) (ascii_points s low) ∙ ap lowered (all_shown s low)
+    ap (λ t. lowered (filter (λ c. not (is_passed_over c)) t)) (ascii_points s low) ∙ ap lowered (all_shown s low)
 
--- NTFS: small letters may be made before the cuts, since no letter is in a set
+-- NTFS: small letters may be made first, since no letter is in a set
 
-ntfs_of : (s : List ℕ) → ntfs_key s ≡ trimmed (codes " .") (before (codes ":") (lowered s))
+ntfs_of : (s : List ℕ) → ntfs_key s ≡ trimmed (codes " .") (until_any (codes ":") (lowered s))
 unfolding ntfs_key
 ntfs_of s =
-    trimmed_lowered (codes " .") space_dot (before (codes ":") s)
-    ∙ ap (trimmed (codes " .")) (before_lowered (codes ":") colon s)
+    trimmed_lowered (codes " .") space_dot (until_any (codes ":") s)
+    ∙ ap (trimmed (codes " .")) (until_any_lowered (codes ":") colon s)
 
 -- at the two fixed names all three rules agree
 
 ntfs_git_key : (s : List ℕ) → lowered s ≡ git → ntfs_key s ≡ git
-ntfs_git_key s e = ntfs_of s ∙ ap (λ t. trimmed (codes " .") (before (codes ":") t)) e
+ntfs_git_key s e = ntfs_of s ∙ ap (λ t. trimmed (codes " .") (until_any (codes ":") t)) e
 
 ntfs_modules_key : (s : List ℕ) → lowered s ≡ modules → ntfs_key s ≡ modules
-ntfs_modules_key s e = ntfs_of s ∙ ap (λ t. trimmed (codes " .") (before (codes ":") t)) e
+ntfs_modules_key s e = ntfs_of s ∙ ap (λ t. trimmed (codes " .") (until_any (codes ":") t)) e
 
 git_low : AllByRecursion (λ b. b < 128) git
 git_low = omega arith
@@ -62,15 +62,15 @@ hfs_modules_key s e = hfs_plain s (subst (AllByRecursion (λ b. b < 128)) (sym e
 -- what the plain protection refuses
 refuses : (s : List ℕ) (mode : Option Mode) (n : ℕ) → plain_rule s mode ≡ Some n → (lowered s ≡ git) ⊎ (lowered s ≡ modules)
 unfolding plain_rule
-refuses s mode n e = go (equals (lowered s) git) refl (equals (lowered s) modules) refl
+refuses s mode n e = go (bytes_eq (lowered s) git) refl (bytes_eq (lowered s) modules) refl
   where
-    none : (m : Option Mode) → cond (linked m && false) (Some 27) None ≡ Some n → ⊥
+    none : (m : Option Mode) → cond (is_symlink m && false) (Some 27) None ≡ Some n → ⊥
     none None f = let z : ◌≡◌ {A = ℕ} 0 1 = cc in omega arith
     none (Some Symlink) f = let z : ◌≡◌ {A = ℕ} 0 1 = cc in omega arith
 
-    go : (x : Bool) → equals (lowered s) git ≡ x → (y : Bool) → equals (lowered s) modules ≡ y → (lowered s ≡ git) ⊎ (lowered s ≡ modules)
-    go true p y q = inl (equals_true (lowered s) git p)
-    go false p true q = inr (equals_true (lowered s) modules q)
+    go : (x : Bool) → bytes_eq (lowered s) git ≡ x → (y : Bool) → bytes_eq (lowered s) modules ≡ y → (lowered s ≡ git) ⊎ (lowered s ≡ modules)
+    go true p y q = inl (bytes_eq-true (lowered s) git p)
+    go false p true q = inr (bytes_eq-true (lowered s) modules q)
     go false p false q = absurd (none mode (rw (p, q) at e))
 
 pub hfs_covers : (s : List ℕ) (mode : Option Mode) (n : ℕ) → plain_rule s mode ≡ Some n → hfs_rule s mode ≡ plain_rule s mode

@@ -1,20 +1,20 @@
--- The tests of Words.antt say what they are for.
+-- The tests on lists say what they are for.
 use Rattle.std.specs.Option.{option_map, option_map_or}
 use Rattle.std.proofs.Common.{MatchOption, ◌≡◌, ℕ, Bool, true, List, Some, None, Decides, Option, sym, refl, subst}
 use Rattle.std.proofs.lemmas.Slice.Eq.{bytes_eq-Decides}
-use Rattle.protections.specs.Words.{equals}
+use Rattle.std.specs.Prelude.{bytes_eq}
 
-pub equals_decides : (xs ys : List ℕ) → Decides (equals xs ys) (xs ≡ ys)
-equals_decides = bytes_eq-Decides
+pub bytes_eq-decides : (xs ys : List ℕ) → Decides (bytes_eq xs ys) (xs ≡ ys)
+bytes_eq-decides = bytes_eq-Decides
 
-pub equals_true : (xs ys : List ℕ) → equals xs ys ≡ true → xs ≡ ys
-equals_true xs ys = (equals_decides xs ys).0
+pub bytes_eq-true : (xs ys : List ℕ) → bytes_eq xs ys ≡ true → xs ≡ ys
+bytes_eq-true xs ys = (bytes_eq-decides xs ys).0
 
-pub equals_refl : (xs : List ℕ) → equals xs xs ≡ true
-equals_refl xs = (equals_decides xs xs).1 refl
+pub bytes_eq-refl : (xs : List ℕ) → bytes_eq xs xs ≡ true
+bytes_eq-refl xs = (bytes_eq-decides xs xs).1 refl
 
-pub decided : (xs ys : List ℕ) (r : Bool) → r ≡ equals xs ys → Decides r (xs ≡ ys)
-decided xs ys r e = subst (λ b. Decides b (xs ≡ ys)) (sym e) (equals_decides xs ys)
+pub decided : (xs ys : List ℕ) (r : Bool) → r ≡ bytes_eq xs ys → Decides r (xs ≡ ys)
+decided xs ys r e = subst (λ b. Decides b (xs ≡ ys)) (sym e) (bytes_eq-decides xs ys)
 
 -- what a test of an optional value answers
 pub tested : {X : Type 0} (test : X → Bool) (none : Bool) (o : Option X) (r : Bool) (Post : X → Type 0) → MatchOption o (r ≡ none) Post →

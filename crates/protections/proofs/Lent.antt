@@ -3,11 +3,12 @@ use Rattle.std.proofs.Common.{◌≡◌, ℕ, ◌<◌, ◌||◌, Bor, List, [], 
 use Rattle.std.proofs.lemmas.List.{length-map, get_or-map}
 use Rattle.std.specs.List.{list_any, AllByRecursion}
 use Rattle.std.proofs.ByRecursion.{All-get_or}
-use Rattle.protections.specs.Words.{equals, listed}
+use Rattle.std.specs.Prelude.{bytes_eq}
+use Rattle.protections.specs.Names.{is_listed}
 
-pub names_listed : (k : List ℕ) (rs : List (Bor (List ℕ))) → list_any (λ n. equals k n.now) rs ≡ listed (map (λ x. x.now) rs) k
-names_listed k [] = refl
-names_listed k (n ∷ rs) = ap (λ b. equals k n.now || b) (names_listed k rs)
+pub names_is_listed : (k : List ℕ) (rs : List (Bor (List ℕ))) → list_any (λ n. bytes_eq k n.now) rs ≡ is_listed (map (λ x. x.now) rs) k
+names_is_listed k [] = refl
+names_is_listed k (n ∷ rs) = ap (λ b. bytes_eq k n.now || b) (names_is_listed k rs)
 
 pub names_all : (P : List ℕ → Type 0) (rs : List (Bor (List ℕ))) (i : ℕ) (d : Bor (List ℕ)) → i < length rs → AllByRecursion P (map (λ x. x.now) rs) →
     P (get_or rs i d).now

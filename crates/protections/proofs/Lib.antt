@@ -1,8 +1,8 @@
 -- The lemmas that the proofs share.
 pub mod Agree
 mod Compared
-pub mod CutKey
-mod CutShort
+pub mod EndedKey
+mod ShortComponent
 pub mod Devices
 pub mod Equal
 mod FirstDot
@@ -10,5 +10,5 @@ mod Lent
 mod Second
 mod Short
 mod Stream
-pub mod Told
+pub mod NamesDecided
 mod Trimmed

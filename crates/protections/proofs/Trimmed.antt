@@ -1,11 +1,13 @@
--- A list without the numbers at its end that do not count, told from the front, and two such compared.
+-- A list without the numbers at its end that do not count, number by number from the front, and two such compared.
 use Rattle.std.proofs.Common.{◌≡◌, ℕ, suc, ◌+◌, ◌-◌, ◌<◌, Bool, true, false, cond, not, ◌&&◌, eqb, ◌⊎◌, List, [], ◌∷◌, ◌++◌, reverse, length, take, Some, None, Option, sym, refl, ap, ◌∙◌, inl, inr, ⊎_elim, arith}
 use Rattle.std.specs.List.{cons_option, prefix_len, suffix_len, list_all}
 use Rattle.std.specs.Option.{option_map_or, option_eq, is_some}
 use Rattle.std.proofs.lemmas.List.{length-take, length-reverse, reverse-append}
 use Rattle.std.proofs.lemmas.List.Sums.{suffix_len-le-length}
 use Rattle.std.proofs.lemmas.Bool.{eqb-true, eqb-false, eq-eqb, not-true, not-false, true≢false, false≢true}
-use Rattle.protections.specs.Words.{equals, among, Takes}
+use Rattle.std.specs.Prelude.{bytes_eq}
+use Rattle.std.specs.Char.{char_set_contains}
+use Rattle.std.specs.Iterator.{YieldsFirst}
 use Rattle.protections.specs.Keys.{trimmed}
 
 -- how many pass from the end back, with one more element in front
@@ -61,84 +63,84 @@ all_with_first p (Some x) u = refl
 -- a number and what follows it
 
 module _ (set : List ℕ) where
-  kept : (b : ℕ) (t : List ℕ) → suffix_len (among set) (b ∷ t) ≡ suffix_len (among set) t → trimmed set (b ∷ t) ≡ b ∷ trimmed set t
+  kept : (b : ℕ) (t : List ℕ) → suffix_len (char_set_contains set) (b ∷ t) ≡ suffix_len (char_set_contains set) t → trimmed set (b ∷ t) ≡ b ∷ trimmed set t
   kept b t e =
-      let l = suffix_len-le-length (among set) t in
-      let n : length (b ∷ t) - suffix_len (among set) (b ∷ t) ≡ suc (length t - suffix_len (among set) t) = omega arith in
+      let l = suffix_len-le-length (char_set_contains set) t in
+      let n : length (b ∷ t) - suffix_len (char_set_contains set) (b ∷ t) ≡ suc (length t - suffix_len (char_set_contains set) t) = omega arith in
       ap (λ k. take k (b ∷ t)) n
 
-  none_kept : (u : List ℕ) → trimmed set u ≡ [] → suffix_len (among set) u ≡ length u
+  none_kept : (u : List ℕ) → trimmed set u ≡ [] → suffix_len (char_set_contains set) u ≡ length u
   none_kept u e =
-      let l = suffix_len-le-length (among set) u in
+      let l = suffix_len-le-length (char_set_contains set) u in
       let n = simp length-take at (ap length e) in
       omega arith
 
-  same_end : (b : ℕ) (u : List ℕ) → (among set b ≡ false) ⊎ (trimmed set u ≡ [] → ⊥) → suffix_len (among set) (b ∷ u) ≡ suffix_len (among set) u
-  same_end b u f = go (eqb (suffix_len (among set) u) (length u)) refl f
+  same_end : (b : ℕ) (u : List ℕ) → (char_set_contains set b ≡ false) ⊎ (trimmed set u ≡ [] → ⊥) → suffix_len (char_set_contains set) (b ∷ u) ≡ suffix_len (char_set_contains set) u
+  same_end b u f = go (eqb (suffix_len (char_set_contains set) u) (length u)) refl f
     where
-      none : suffix_len (among set) u ≡ length u → trimmed set u ≡ []
-      none l = let n : length u - suffix_len (among set) u ≡ 0 = omega arith in ap (λ k. take k u) n
+      none : suffix_len (char_set_contains set) u ≡ length u → trimmed set u ≡ []
+      none l = let n : length u - suffix_len (char_set_contains set) u ≡ 0 = omega arith in ap (λ k. take k u) n
 
-      go : (x : Bool) → eqb (suffix_len (among set) u) (length u) ≡ x → (among set b ≡ false) ⊎ (trimmed set u ≡ [] → ⊥) →
-          suffix_len (among set) (b ∷ u) ≡ suffix_len (among set) u
+      go : (x : Bool) → eqb (suffix_len (char_set_contains set) u) (length u) ≡ x → (char_set_contains set b ≡ false) ⊎ (trimmed set u ≡ [] → ⊥) →
+          suffix_len (char_set_contains set) (b ∷ u) ≡ suffix_len (char_set_contains set) u
       go true q (inl g) =
-          let l = eqb-true (suffix_len (among set) u) (length u) q in
-          let all : suffix_len (among set) (b ∷ u) ≡ length u + 0 = ending_all (among set) b u l ∙ rw g in
+          let l = eqb-true (suffix_len (char_set_contains set) u) (length u) q in
+          let all : suffix_len (char_set_contains set) (b ∷ u) ≡ length u + 0 = ending_all (char_set_contains set) b u l ∙ rw g in
           omega arith
-      go true q (inr g) = absurd (g (none (eqb-true (suffix_len (among set) u) (length u) q)))
+      go true q (inr g) = absurd (g (none (eqb-true (suffix_len (char_set_contains set) u) (length u) q)))
       go false q r =
-          let n = eqb-false (suffix_len (among set) u) (length u) q in
-          let l = suffix_len-le-length (among set) u in
-          ending_some (among set) b u (omega arith)
+          let n = eqb-false (suffix_len (char_set_contains set) u) (length u) q in
+          let l = suffix_len-le-length (char_set_contains set) u in
+          ending_some (char_set_contains set) b u (omega arith)
 
-  pub trimmed_fill : (b : ℕ) (u : List ℕ) → among set b ≡ true → trimmed set u ≡ [] → trimmed set (b ∷ u) ≡ []
+  pub trimmed_fill : (b : ℕ) (u : List ℕ) → char_set_contains set b ≡ true → trimmed set u ≡ [] → trimmed set (b ∷ u) ≡ []
   trimmed_fill b u f g =
       let all = none_kept u g in
-      let more : suffix_len (among set) (b ∷ u) ≡ length u + 1 = ending_all (among set) b u all ∙ rw f in
-      let n : length (b ∷ u) - suffix_len (among set) (b ∷ u) ≡ 0 = omega arith in
+      let more : suffix_len (char_set_contains set) (b ∷ u) ≡ length u + 1 = ending_all (char_set_contains set) b u all ∙ rw f in
+      let n : length (b ∷ u) - suffix_len (char_set_contains set) (b ∷ u) ≡ 0 = omega arith in
       ap (λ k. take k (b ∷ u)) n
 
-  pub trimmed_keep : (b : ℕ) (u : List ℕ) → (among set b ≡ false) ⊎ (trimmed set u ≡ [] → ⊥) → trimmed set (b ∷ u) ≡ b ∷ trimmed set u
+  pub trimmed_keep : (b : ℕ) (u : List ℕ) → (char_set_contains set b ≡ false) ⊎ (trimmed set u ≡ [] → ⊥) → trimmed set (b ∷ u) ≡ b ∷ trimmed set u
   trimmed_keep b u f = kept b u (same_end b u f)
 
   -- one number more: nothing is left exactly where all are of the set
 
-  trimmed_more : (b : ℕ) (u : List ℕ) → equals (trimmed set u) [] ≡ list_all (among set) u →
-      trimmed set (b ∷ u) ≡ cond (list_all (among set) (b ∷ u)) [] (b ∷ trimmed set u)
-  trimmed_more b u h = go (among set b) refl (trimmed set u) refl h
+  trimmed_more : (b : ℕ) (u : List ℕ) → bytes_eq (trimmed set u) [] ≡ list_all (char_set_contains set) u →
+      trimmed set (b ∷ u) ≡ cond (list_all (char_set_contains set) (b ∷ u)) [] (b ∷ trimmed set u)
+  trimmed_more b u h = go (char_set_contains set b) refl (trimmed set u) refl h
     where
-      go : (x : Bool) → among set b ≡ x → (k : List ℕ) → trimmed set u ≡ k → equals (trimmed set u) [] ≡ list_all (among set) u →
-          trimmed set (b ∷ u) ≡ cond (list_all (among set) (b ∷ u)) [] (b ∷ trimmed set u)
+      go : (x : Bool) → char_set_contains set b ≡ x → (k : List ℕ) → trimmed set u ≡ k → bytes_eq (trimmed set u) [] ≡ list_all (char_set_contains set) u →
+          trimmed set (b ∷ u) ≡ cond (list_all (char_set_contains set) (b ∷ u)) [] (b ∷ trimmed set u)
       go false e k q g = rw e (trimmed_keep b u (inl e))
-      go true e [] q g = let all : true ≡ list_all (among set) u = rw q at g in rw (e, ← all) (trimmed_fill b u e q)
+      go true e [] q g = let all : true ≡ list_all (char_set_contains set) u = rw q at g in rw (e, ← all) (trimmed_fill b u e q)
       go true e (y ∷ k) q g =
-          let some : false ≡ list_all (among set) u = rw q at g in
-          rw (e, ← some) (trimmed_keep b u (inr (λ n. let z : ◌≡◌ {A = ℕ} 0 1 = cc in omega arith)))
+          let not_all : false ≡ list_all (char_set_contains set) u = rw q at g in
+          rw (e, ← not_all) (trimmed_keep b u (inr (λ n. let z : ◌≡◌ {A = ℕ} 0 1 = cc in omega arith)))
 
-  nothing_left : (u : List ℕ) → equals (trimmed set u) [] ≡ list_all (among set) u
+  nothing_left : (u : List ℕ) → bytes_eq (trimmed set u) [] ≡ list_all (char_set_contains set) u
   nothing_left [] = refl
   nothing_left (b ∷ u) =
-      ap (λ k. equals k []) (trimmed_more b u (nothing_left u)) ∙ go (list_all (among set) (b ∷ u))
+      ap (λ k. bytes_eq k []) (trimmed_more b u (nothing_left u)) ∙ go (list_all (char_set_contains set) (b ∷ u))
     where
-      go : (x : Bool) → equals (cond x [] (b ∷ trimmed set u)) [] ≡ x
+      go : (x : Bool) → bytes_eq (cond x [] (b ∷ trimmed set u)) [] ≡ x
       go true = refl
       go false = refl
 
-  step : (b : ℕ) (u : List ℕ) → trimmed set (b ∷ u) ≡ cond (list_all (among set) (b ∷ u)) [] (b ∷ trimmed set u)
+  step : (b : ℕ) (u : List ℕ) → trimmed set (b ∷ u) ≡ cond (list_all (char_set_contains set) (b ∷ u)) [] (b ∷ trimmed set u)
   step b u = trimmed_more b u (nothing_left u)
 
   -- two lists compared
 
   abbrev pub Same : List ℕ → List ℕ → Bool
-  Same u v = equals (trimmed set u) (trimmed set v)
+  Same u v = bytes_eq (trimmed set u) (trimmed set v)
 
   pub same_more : (b : ℕ) (u v : List ℕ) → Same (b ∷ u) (b ∷ v) ≡ Same u v
-  same_more b u v = go (among set b) refl (trimmed set u) refl (trimmed set v) refl
+  same_more b u v = go (char_set_contains set b) refl (trimmed set u) refl (trimmed set v) refl
     where
       more : (t : List ℕ) (y : ℕ) (k : List ℕ) → trimmed set t ≡ y ∷ k → trimmed set (b ∷ t) ≡ b ∷ trimmed set t
       more t y k q = trimmed_keep b t (inr (λ n. let z : ◌≡◌ {A = ℕ} 0 1 = cc in omega arith))
 
-      go : (x : Bool) → among set b ≡ x → (k : List ℕ) → trimmed set u ≡ k → (l : List ℕ) → trimmed set v ≡ l → Same (b ∷ u) (b ∷ v) ≡ Same u v
+      go : (x : Bool) → char_set_contains set b ≡ x → (k : List ℕ) → trimmed set u ≡ k → (l : List ℕ) → trimmed set v ≡ l → Same (b ∷ u) (b ∷ v) ≡ Same u v
       go false e k q l r = rw (trimmed_keep b u (inl e), trimmed_keep b v (inl e), eq-eqb b b refl)
       go true e [] q [] r = rw (trimmed_fill b u e q, trimmed_fill b v e r, q, r)
       go true e [] q (y ∷ l) r = rw (trimmed_fill b u e q, more v y l r, q, r)
@@ -148,7 +150,7 @@ module _ (set : List ℕ) where
   -- a step of each
 
   -- both yield the same number
-  pub passed : (o p : Option ℕ) (u u' v v' : List ℕ) → Takes u o u' → Takes v p v' → is_some o ≡ true → false ≡ not (option_eq eqb o p) →
+  pub passed : (o p : Option ℕ) (u u' v v' : List ℕ) → YieldsFirst (λ s. s) u o u' → YieldsFirst (λ s. s) v p v' → is_some o ≡ true → false ≡ not (option_eq eqb o p) →
       Same u v ≡ Same u' v'
   passed None p u u' v v' a b f g = absurd (false≢true f)
   passed (Some x) None u u' v v' a b f g = absurd (false≢true g)
@@ -156,25 +158,25 @@ module _ (set : List ℕ) where
       let e : x ≡ y = eqb-true x y (not-false (eqb x y) (sym g)) in rw (a, b, e) (same_more y u' v')
 
   -- they do not
-  pub differ : (o p : Option ℕ) (u u' v v' : List ℕ) → Takes u o u' → Takes v p v' → (is_some o ≡ false) ⊎ (true ≡ not (option_eq eqb o p)) →
-      Same u v ≡ (list_all (among set) (cons_option o u') && list_all (among set) (cons_option p v'))
+  pub differ : (o p : Option ℕ) (u u' v v' : List ℕ) → YieldsFirst (λ s. s) u o u' → YieldsFirst (λ s. s) v p v' → (is_some o ≡ false) ⊎ (true ≡ not (option_eq eqb o p)) →
+      Same u v ≡ (list_all (char_set_contains set) (cons_option o u') && list_all (char_set_contains set) (cons_option p v'))
   differ None None u u' v v' a b f = rw (a.0, a.1, b.0, b.1)
-  differ None (Some y) u u' v v' a b f = rw (a.0, a.1, b, step y v') (go (list_all (among set) (y ∷ v')))
+  differ None (Some y) u u' v v' a b f = rw (a.0, a.1, b, step y v') (go (list_all (char_set_contains set) (y ∷ v')))
     where
-      go : (b : Bool) → equals [] (cond b [] (y ∷ trimmed set v')) ≡ b
+      go : (b : Bool) → bytes_eq [] (cond b [] (y ∷ trimmed set v')) ≡ b
       go true = refl
       go false = refl
-  differ (Some x) None u u' v v' a b f = rw (a, b.0, b.1, step x u') (go (list_all (among set) (x ∷ u')))
+  differ (Some x) None u u' v v' a b f = rw (a, b.0, b.1, step x u') (go (list_all (char_set_contains set) (x ∷ u')))
     where
-      go : (a : Bool) → equals (cond a [] (x ∷ trimmed set u')) [] ≡ (a && true)
+      go : (a : Bool) → bytes_eq (cond a [] (x ∷ trimmed set u')) [] ≡ (a && true)
       go true = refl
       go false = refl
-  differ (Some x) (Some y) u u' v v' a b f = rw (a, b, step x u', step y v') (go (list_all (among set) (x ∷ u')) (list_all (among set) (y ∷ v')))
+  differ (Some x) (Some y) u u' v v' a b f = rw (a, b, step x u', step y v') (go (list_all (char_set_contains set) (x ∷ u')) (list_all (char_set_contains set) (y ∷ v')))
     where
       apart : eqb x y ≡ false
       apart = ⊎_elim (λ e. absurd (true≢false e)) (λ e. not-true (eqb x y) (sym e)) f
 
-      go : (a b : Bool) → equals (cond a [] (x ∷ trimmed set u')) (cond b [] (y ∷ trimmed set v')) ≡ (a && b)
+      go : (a b : Bool) → bytes_eq (cond a [] (x ∷ trimmed set u')) (cond b [] (y ∷ trimmed set v')) ≡ (a && b)
       go true true = refl
       go true false = refl
       go false true = refl

@@ -1,8 +1,8 @@
 -- The definitions that the contracts cite.
-pub mod Words
 pub mod Keys
 pub mod Names
 pub mod Rules
--- Lemmas that the laws in src/ cite: they are proved, and nothing in them has to be believed.
-pub mod Bound
-pub mod Ends
+-- What only private functions cite, and lemmas that the laws in src/ cite: all of it is proved, and nothing in it has to be believed.
+pub mod NameEnds
+pub mod BoundLemmas
+pub mod EndLemmas

@@ -1,9 +1,12 @@
 //! The protection for HFS+: characters that it passes over do not count.
-ghost use Rattle.std.specs.Prelude.{◌≡◌, ◌==◌, [], slice_index};
-ghost use Rattle.protections.specs.Keys.{ignored, hfs_key};
-ghost use Rattle.protections.specs.Rules.{hfs_rule};
-ghost use Rattle.protections.specs.Bound.{hfs_bounded};
-ghost use Rattle.protections.specs.Ends.{none_trimmed};
+ghost use Rattle.std.specs.Prelude.{◌≡◌, ℕ, ◌==◌, List, [], Some, Option, slice_index, ◌↔◌};
+ghost use Rattle.std.specs.Str.{byte};
+ghost use Rattle.protections.specs.Keys.{is_passed_over, hfs_key};
+ghost use Rattle.protections.specs.Names.{git, modules};
+ghost use Rattle.protections.specs.declared.rules.Mode.TheVariants.{Symlink};
+ghost use Rattle.protections.specs.Rules.{numbered, hfs_rule};
+ghost use Rattle.protections.specs.BoundLemmas.{hfs_bounded};
+ghost use Rattle.protections.specs.EndLemmas.{none_trimmed};
 
 use crate::keys::{Keyed, small};
 use crate::rules::{Mode, Protection, Verdict, verdict_by_key};
@@ -16,7 +19,7 @@ pub struct Hfs;
 
 // Whether HFS+ passes over the character.
 fn passes_over(number: u32) -> bool
-    ensures { result ≡ ignored number }
+    ensures { result ≡ is_passed_over number }
 {
     matches!(number, 0x200C..=0x200F | 0x202A..=0x202E | 0x206A..=0x206F | 0xFEFF)
 }
@@ -24,13 +27,13 @@ fn passes_over(number: u32) -> bool
 impl Keyed for Hfs {
     ghost key = { λ _ s. hfs_key s };
 
-    ghost told = { λ _ s. hfs_key s };
+    ghost yielded = { λ _ s. hfs_key s };
 
-    ghost trailing = { λ _. [] };
+    ghost ignored_at_end = { λ _. [] };
 
-    ghost counted = { λ p s. none_trimmed (hfs_key s) };
+    ghost key_of_yielded = { λ p s. none_trimmed (hfs_key s) };
 
-    ghost within = { λ p s h. hfs_bounded s };
+    ghost bounded = { λ p s h. hfs_bounded s };
 
     // The rest is the caller's, and `Characters` keeps its own to itself, so the loop takes the parts off by hand.
     fn advance(&self, rest: &mut &[u8]) -> Option<u32> {
@@ -43,7 +46,7 @@ impl Keyed for Hfs {
         None
     }
 
-    fn is_trailing(&self, _number: u32) -> bool {
+    fn is_ignored_at_end(&self, _number: u32) -> bool {
         false
     }
 }
@@ -51,18 +54,26 @@ impl Keyed for Hfs {
 // Whether the key begins with a dot, as the names do that are refused. It is asked first, since without it the check of a
 // component of one byte takes a third longer.
 fn begins_with_dot(component: &[u8]) -> bool
-    ensures { result ≡ (slice_index (hfs_key component.now) 0 == 46) }
+    ensures { result ≡ (slice_index (hfs_key component.now) 0 == byte ".") }
 {
     // Not by a `Cursor`: the borrow checker does not cover one whose protection is named and has its key by one of several impls.
     let mut rest = component;
-    Hfs.advance(&mut rest) == Some(0x2E)
+    Hfs.advance(&mut rest) == Some(u32::from(b'.'))
 }
 
 impl Protection for Hfs {
-    ghost judged = { λ _ s mode. hfs_rule s mode };
+    ghost verdict_of = { λ _ s mode. hfs_rule s mode };
 
     #[tactic(auto, unfolding(crate::specs::Rules::hfs_rule))]
-    fn verdict(&self, component: &[u8], mode: Option<Mode>) -> Option<Verdict> {
+    fn verdict(&self, component: &[u8], mode: Option<Mode>) -> Option<Verdict>
+        ensures value { numbered result ≡ hfs_rule component.now mode }
+        ensures verdicts { (s : List ℕ) (m : Option Mode)
+            → ⟦<Hfs as Protection>⟧.verdict_of self.now s m ≡ hfs_rule s m }
+        ensures key { (s : List ℕ) → ⟦<Hfs as Keyed>⟧.key self.now s ≡ hfs_key s }
+        ensures git { (numbered result ≡ Some 26) ↔ (hfs_key component.now ≡ git) }
+        ensures link { (numbered result ≡ Some 27)
+            ↔ (mode ≡ Some Symlink) × (hfs_key component.now ≡ modules) }
+    {
         if !begins_with_dot(component) {
             return None;
         }

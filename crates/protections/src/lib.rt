@@ -1,10 +1,10 @@
 //! Five protections against names that a file system takes for others: their keys and their verdicts.
 #![tactic(auto)]
 
-mod cut_names;
-mod cuts;
+mod first_bytes;
 mod hfs_names;
 mod keys;
+mod name_ends;
 mod ntfs_names;
 mod plain_names;
 mod rules;

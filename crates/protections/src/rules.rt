@@ -1,9 +1,7 @@
 //! Verdicts on components, and what a protection is.
-ghost use Rattle.std.specs.Prelude.{◌≡◌, ℕ, Bool, cond, List, Some, None, Option as Maybe};
-ghost use Rattle.protections.specs.declared.rules.Mode.{Mode as Kind};
-ghost use Rattle.protections.specs.Names.{git as git_name, modules as modules_name};
-ghost use Rattle.protections.specs.Rules.{number_of, numbered, guarded, linked};
-ghost use Rattle.protections.specs.Words.{equals};
+ghost use Rattle.std.specs.Prelude.{◌≡◌, ℕ, Bool, if◌then◌else◌, List, Some, None, Option, bytes_eq};
+ghost use Rattle.protections.specs.Names.{git, modules};
+ghost use Rattle.protections.specs.Rules.{verdict_number, numbered, guarded, is_symlink};
 
 use crate::keys::{Keyed, named};
 
@@ -28,7 +26,7 @@ pub enum Verdict {
 impl Verdict {
     /// The number of the verdict, from 22 to 27.
     pub fn number(&self) -> u8
-        ensures { result ≡ number_of self.now }
+        ensures { result ≡ verdict_number self.now }
     {
         *self as u8
     }
@@ -36,40 +34,46 @@ impl Verdict {
 
 /// A protection: a key, and a verdict on a component and its mode.
 pub trait Protection: Keyed {
-    ghost judged: { Self → List ℕ → Maybe Kind → Maybe ℕ };
+    ghost use Rattle.protections.specs.declared.rules.Mode.{Mode};
+
+    // The number of the verdict on a component and its mode, if there is one.
+    ghost verdict_of: { Self → List ℕ → Option Mode → Option ℕ };
 
     // An Option and no Result, here and in all that pass a verdict on, and the mode is an Option passed to each: a fixed form,
     // docs/DECISIONS.md.
     /// The verdict on a component, if it is refused.
     fn verdict(&self, component: &[u8], mode: Option<Mode>) -> Option<Verdict>
-        ensures { numbered result ≡ judged self.now component.now mode };
+        ensures { numbered result ≡ verdict_of self.now component.now mode };
 }
 
 // Whether the component is a symbolic link.
 pub(crate) fn is_link(mode: Option<Mode>) -> bool
-    ensures { result ≡ linked mode }
+    ensures { result ≡ is_symlink mode }
 {
     mode == Some(Mode::Symlink)
 }
 
 // The verdict on a name that is taken for `.git`, or on a link that is taken for `.gitmodules`.
-pub(crate) fn git_verdict(git: bool, linked_modules: bool) -> Option<Verdict>
-    ensures { numbered result ≡ cond git (Some 26) (cond linked_modules (Some 27) None) }
+pub(crate) fn git_verdict(is_git: bool, linked_modules: bool) -> Option<Verdict>
+    ensures { numbered result
+        ≡ if is_git then Some 26 else if linked_modules then Some 27 else None }
 {
-    if git {
+    if is_git {
         return Some(Verdict::DotGitDir);
     }
     linked_modules.then_some(Verdict::SymlinkedGitModules)
 }
 
-// The verdict on a component by whether it is told as `.git` or as `.gitmodules`.
+// The verdict on a component by whether it yields the numbers of `.git` or of `.gitmodules`.
 pub(crate) fn verdict_by_key<K: Keyed>(
-    keyed: &K,
+    protection: &K,
     component: &[u8],
     mode: Option<Mode>,
 ) -> Option<Verdict>
-    ensures { numbered result ≡ guarded (equals (K.Keyed.told keyed.now component.now) git_name) (equals (K.Keyed.told keyed.now component.now) modules_name) mode }
+    ensures { numbered result
+        ≡ guarded (bytes_eq (K.Keyed.yielded protection.now component.now) git)
+        (bytes_eq (K.Keyed.yielded protection.now component.now) modules) mode }
 {
-    let modules = is_link(mode) && named(keyed, component, b".gitmodules");
-    git_verdict(named(keyed, component, b".git"), modules)
+    let linked_modules = is_link(mode) && named(protection, component, b".gitmodules");
+    git_verdict(named(protection, component, b".git"), linked_modules)
 }

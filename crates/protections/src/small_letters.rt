@@ -1,10 +1,10 @@
 //! Components with A to Z made small.
 ghost use Rattle.std.specs.Prelude.{[]};
 ghost use Rattle.protections.specs.Keys.{lowered};
-ghost use Rattle.protections.specs.Bound.{bytes_bounded, lowered_bounded};
-ghost use Rattle.protections.specs.Ends.{none_trimmed};
+ghost use Rattle.protections.specs.BoundLemmas.{bytes_bounded, lowered_bounded};
+ghost use Rattle.protections.specs.EndLemmas.{none_trimmed};
 
-use crate::cuts::take_small;
+use crate::first_bytes::take_small;
 use crate::keys::Keyed;
 
 // The bytes with A to Z made small. NTFS takes the same step: a trait for one line would be longer.
@@ -14,19 +14,19 @@ pub(crate) struct Lowered;
 impl Keyed for Lowered {
     ghost key = { λ _ s. lowered s };
 
-    ghost told = { λ _ s. lowered s };
+    ghost yielded = { λ _ s. lowered s };
 
-    ghost trailing = { λ _. [] };
+    ghost ignored_at_end = { λ _. [] };
 
-    ghost counted = { λ p s. none_trimmed (lowered s) };
+    ghost key_of_yielded = { λ p s. none_trimmed (lowered s) };
 
-    ghost within = { λ p s h. lowered_bounded s (bytes_bounded s h) };
+    ghost bounded = { λ p s h. lowered_bounded s (bytes_bounded s h) };
 
     fn advance(&self, rest: &mut &[u8]) -> Option<u32> {
         take_small(rest)
     }
 
-    fn is_trailing(&self, _number: u32) -> bool {
+    fn is_ignored_at_end(&self, _number: u32) -> bool {
         false
     }
 }

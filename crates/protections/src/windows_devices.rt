@@ -1,18 +1,17 @@
 //! The protection for Windows devices: their names, and characters that Windows does not allow.
-ghost use Rattle.std.specs.Prelude.{◌≡◌, ◌||◌, [], ◌∷◌, codes, Decides};
-ghost use Rattle.std.specs.List.{ContainsAt as Has};
-ghost use Rattle.protections.specs.Names.{devices, continued};
-ghost use Rattle.protections.specs.Words.{listed, some};
-ghost use Rattle.protections.specs.Keys.{cut_key, ended, device_key, from_digit};
-ghost use Rattle.protections.specs.Rules.{is_device, illegal, has_illegal, ends_illegally, device_rule};
-ghost use Rattle.protections.specs.Bound.{bytes_bounded};
-ghost use Rattle.protections.specs.Ends.{none_trimmed};
+ghost use Rattle.std.specs.Prelude.{◌≡◌, ℕ, ◌||◌, List, [], ◌∷◌, Some, Option, codes, ◌↔◌, ◌⊎◌, IsTrue, Contains};
+ghost use Rattle.protections.specs.Names.{devices, is_listed};
+ghost use Rattle.protections.specs.NameEnds.{continuations, ended_key, nothing_follows, is_one_digit};
+ghost use Rattle.protections.specs.Keys.{device_key};
+ghost use Rattle.protections.specs.Rules.{is_device, is_illegal_byte, has_illegal, ends_illegally, numbered, device_rule};
+ghost use Rattle.protections.specs.BoundLemmas.{bytes_bounded};
+ghost use Rattle.protections.specs.EndLemmas.{none_trimmed};
 ghost use Rattle.std.proofs.Common.{arith};
 ghost use Rattle.std.proofs.lemmas.Bool.Decides.{nat_tests};
 
-use crate::cut_names::Cut;
-use crate::cuts::take_byte;
+use crate::first_bytes::take_byte;
 use crate::keys::Keyed;
+use crate::name_ends::NameEnds;
 use crate::rules::{Mode, Protection, Verdict};
 
 /// Refuses the names of devices, and characters that Windows does not allow. Its key is the bytes.
@@ -22,33 +21,33 @@ pub struct WindowsDevices;
 impl Keyed for WindowsDevices {
     ghost key = { λ _ s. s };
 
-    ghost told = { λ _ s. s };
+    ghost yielded = { λ _ s. s };
 
-    ghost trailing = { λ _. [] };
+    ghost ignored_at_end = { λ _. [] };
 
-    ghost counted = { λ p s. none_trimmed s };
+    ghost key_of_yielded = { λ p s. none_trimmed s };
 
-    ghost within = { λ p s h. bytes_bounded s h };
+    ghost bounded = { λ p s h. bytes_bounded s h };
 
     fn advance(&self, rest: &mut &[u8]) -> Option<u32> {
         take_byte(rest)
     }
 
-    fn is_trailing(&self, _number: u32) -> bool {
+    fn is_ignored_at_end(&self, _number: u32) -> bool {
         false
     }
 }
 
-impl Cut for WindowsDevices {
+impl NameEnds for WindowsDevices {
     ghost stops = { codes ".:" };
 
     ghost fillers = { codes " " };
 
     ghost apart = { λ b h. Prim.grind (arith, nat_tests) };
 
-    ghost stopped = { λ b. Prim.grind (arith, nat_tests) };
+    ghost stops_ignore_case = { λ b. Prim.grind (arith, nat_tests) };
 
-    ghost filled = { λ b. Prim.grind (arith, nat_tests) };
+    ghost fillers_ignore_case = { λ b. Prim.grind (arith, nat_tests) };
 
     fn is_stop(&self, byte: u8) -> bool {
         matches!(byte, b'.' | b':')
@@ -61,7 +60,9 @@ impl Cut for WindowsDevices {
 
 // What follows the name of a device that begins with `con`, of which `rest` is what follows these letters.
 fn past_console(rest: &[u8]) -> Option<&[u8]>
-    ensures { ended (codes ".:") (codes " ") result ≡ listed (continued devices (codes "con")) (cut_key (codes ".:") (codes " ") rest.now) }
+    ensures { nothing_follows (codes ".:") (codes " ") result
+        ≡ is_listed (continuations devices (codes "con"))
+        (ended_key (codes ".:") (codes " ") rest.now) }
 {
     match rest {
         [b'i' | b'I', ..] => WindowsDevices.past_name(rest, b"in$"),
@@ -72,7 +73,7 @@ fn past_console(rest: &[u8]) -> Option<&[u8]>
 
 // What follows the first byte, if it is a digit from the given one on.
 fn past_digit(rest: &[u8], least: u8) -> Option<&[u8]>
-    ensures { ended (codes ".:") (codes " ") result ≡ from_digit least rest.now }
+    ensures { nothing_follows (codes ".:") (codes " ") result ≡ is_one_digit least rest.now }
 {
     match rest {
         [digit, tail @ ..] if (least..=b'9').contains(digit) => Some(tail),
@@ -82,7 +83,9 @@ fn past_digit(rest: &[u8], least: u8) -> Option<&[u8]>
 
 // What follows the name of a device that begins with the three letters, of which `rest` is what follows them.
 fn past_device(letters: [u8; 3], rest: &[u8]) -> Option<&[u8]>
-    ensures { ended (codes ".:") (codes " ") result ≡ listed (continued devices letters) (cut_key (codes ".:") (codes " ") rest.now) }
+    ensures { nothing_follows (codes ".:") (codes " ") result
+        ≡ is_listed (continuations devices letters)
+        (ended_key (codes ".:") (codes " ") rest.now) }
 {
     match &letters {
         b"aux" | b"nul" | b"prn" => Some(rest),
@@ -93,10 +96,10 @@ fn past_device(letters: [u8; 3], rest: &[u8]) -> Option<&[u8]>
     }
 }
 
-/// Whether Windows takes the component for a device.
+/// Whether the component's device key is one of the listed names.
 pub fn names_device(component: &[u8]) -> bool
     ensures value { result ≡ is_device component.now }
-    ensures decides { Decides result (Has devices (device_key component.now)) }
+    ensures decides { IsTrue result ↔ Contains devices (device_key component.now) }
 {
     let [a, b, c, rest @ ..] = component else {
         return false;
@@ -111,7 +114,7 @@ pub fn names_device(component: &[u8]) -> bool
 
 // Whether the byte is below 0x20 or one of the marks that Windows does not allow.
 fn is_illegal(byte: u8) -> bool
-    ensures { result ≡ illegal byte }
+    ensures { result ≡ is_illegal_byte byte }
 {
     matches!(
         byte,
@@ -148,10 +151,19 @@ fn is_illegal_name(component: &[u8]) -> bool
 }
 
 impl Protection for WindowsDevices {
-    ghost judged = { λ _ s mode. device_rule s mode };
+    ghost verdict_of = { λ _ s mode. device_rule s mode };
 
     #[tactic(auto, unfolding(crate::specs::Rules::device_rule))]
-    fn verdict(&self, component: &[u8], _mode: Option<Mode>) -> Option<Verdict> {
+    fn verdict(&self, component: &[u8], mode: Option<Mode>) -> Option<Verdict>
+        ensures value { numbered result ≡ device_rule component.now mode }
+        ensures verdicts { (s : List ℕ) (m : Option Mode)
+            → ⟦<WindowsDevices as Protection>⟧.verdict_of self.now s m ≡ device_rule s m }
+        ensures key { (s : List ℕ) → ⟦<WindowsDevices as Keyed>⟧.key self.now s ≡ s }
+        ensures device { (numbered result ≡ Some 24) ↔ Contains devices (device_key component.now) }
+        ensures illegal { (numbered result ≡ Some 25)
+            ↔ (Contains devices (device_key component.now) → ⊥)
+            × (IsTrue (has_illegal component.now) ⊎ IsTrue (ends_illegally component.now)) }
+    {
         if names_device(component) {
             return Some(Verdict::WindowsReservedName);
         }

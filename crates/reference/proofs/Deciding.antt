@@ -4,7 +4,7 @@ use Rattle.std.specs.Cmp.Lexicographic.{pointwise}
 use Rattle.std.specs.Str.{bytes_eq}
 use Rattle.std.proofs.lemmas.Bool.Decides.{same_from_decides, Decides-eqb}
 use Rattle.std.proofs.lemmas.Slice.Eq.{slice_eq-Decides, bytes_eq-Decides}
-use Rattle.tag.specs.Answers.{Answer, first_of}
+use Rattle.tag.specs.Answers.{Answer, Value, first_refusal}
 use Rattle.tag.specs.Errors as tag_errors
 use Rattle.tag.specs.declared.Error as tag
 use Rattle.tag.specs.declared.Error.TheVariants as tags
@@ -13,7 +13,7 @@ use Rattle.reference.specs.declared.Error.{Error}
 use Rattle.reference.specs.declared.Error.TheVariants.{InvalidByte, StartsWithSlash, RepeatedSlash, RepeatedDot, LockFileSuffix, ReflogPortion, Asterisk, StartsWithDot, EndsWithDot, EndsWithSlash, Empty, SomeLowercase, Reserved}
 
 -- An error is a refusal, so it decides.
-pub refusal_decides : (e : Error) (next : Answer) → first_of (refusal e) next ≡ refusal e
+pub refusal_decides : (e : Error) (next : Answer Value) → first_refusal (refusal e) next ≡ refusal e
 refusal_decides (InvalidByte b) next = refl
 refusal_decides StartsWithSlash next = refl
 refusal_decides RepeatedSlash next = refl
@@ -29,8 +29,8 @@ refusal_decides SomeLowercase next = refl
 refusal_decides (Reserved v) next = refl
 
 -- The first check refuses.
-pub first_refuses : (x y : Answer) (e : Error) → refusal e ≡ x → refusal e ≡ first_of x y
-first_refuses x y e p = subst (λ (w : Answer). refusal e ≡ first_of w y) p (sym (refusal_decides e y))
+pub first_refuses : (x y : Answer Value) (e : Error) → refusal e ≡ x → refusal e ≡ first_refusal x y
+first_refuses x y e p = subst (λ (w : Answer Value). refusal e ≡ first_refusal w y) p (sym (refusal_decides e y))
 
 -- A tag name's error is the same refusal of a reference name.
 pub from_tag_refuses : (e : tag.Error) → refusal (from_tag e) ≡ tag_errors.refusal e

@@ -26,5 +26,5 @@ allowed_unchanged s h =
     (⊎_elim (λ t. absurd (p.not_at ((bytes_eq-Decides s (codes "@")).0 t))) (λ f. f) (cases_Bool (bytes_eq s (codes "@"))))
 
 -- Mending twice changes nothing more.
-pub mended_settled : (s : List ℕ) → mended (mended s) ≡ mended s
-mended_settled s = allowed_unchanged (mended s) (mended_allowed s)
+pub mended_twice : (s : List ℕ) → mended (mended s) ≡ mended s
+mended_twice s = allowed_unchanged (mended s) (mended_allowed s)

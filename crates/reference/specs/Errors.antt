@@ -1,17 +1,16 @@
 -- The number and the value of each error, and the answer that a result stands for.
 use Rattle.std.specs.Prelude.{◌≡◌, ℕ, ◌⊎◌, List, Some, None, Ok, Err, Option, Result}
 use Rattle.std.specs.Borrow.{Bor}
-use Rattle.tag.specs.Answers.{Answer}
+use Rattle.tag.specs.Answers.{Answer, Value, number_of}
 use Rattle.tag.specs.Answers.Answer.{allowed, refused}
 use Rattle.tag.specs.Answers.Value.{nothing, byte, name}
-use Rattle.tag.specs.Errors.{number_of}
 use Rattle.tag.specs.declared.Error as tag
 use Rattle.tag.specs.declared.Error.TheVariants as tags
 use Rattle.reference.specs.declared.Error.{Error}
 use Rattle.reference.specs.declared.Error.TheVariants.{InvalidByte, StartsWithSlash, RepeatedSlash, RepeatedDot, LockFileSuffix, ReflogPortion, Asterisk, StartsWithDot, EndsWithDot, EndsWithSlash, Empty, SomeLowercase, Reserved}
 
 -- The refusal that an error stands for.
-abbrev pub refusal : Error → Answer
+abbrev pub refusal : Error → Answer Value
 refusal (InvalidByte b) = refused 1 (byte b)
 refusal StartsWithSlash = refused 2 nothing
 refusal RepeatedSlash = refused 3 nothing
@@ -46,7 +45,7 @@ Shared (Some t) e = e ≡ from_tag t
 Shared None e = (number_of (refusal e) ≡ 12) ⊎ (number_of (refusal e) ≡ 13)
 
 -- The answer that a result stands for.
-abbrev pub answer_of : {T : Type 0} → Result T Error → Answer
+abbrev pub answer_of : {T : Type 0} → Result T Error → Answer Value
 answer_of (Ok v) = allowed
 answer_of (Err e) = refusal e
 

@@ -2,3 +2,4 @@
 pub mod Names
 pub mod Errors
 pub mod Manual
+pub mod Refusals

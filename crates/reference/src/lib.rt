@@ -1,14 +1,15 @@
 //! Reference names: their errors, the checks of partial, complete and branch names, and the mender of partial ones.
 #![tactic(auto)]
 
-ghost use Rattle.std.specs.Prelude.{◌≡◌, ◌≤◌, length, take, is_ok, IfOk, Decides};
+ghost use Rattle.std.specs.Prelude.{◌≡◌, ℕ, ◌≤◌, ◌↔◌, List, length, take, is_ok, IfOk, IsTrue};
+ghost use Rattle.tag.specs.Answers.{Answer, IsFirst, Value, number_of};
 ghost use Rattle.tag.specs.Answers.Answer.{allowed};
-ghost use Rattle.tag.specs.Errors.{number_of};
-ghost use Rattle.mending.specs.Errors.{outcome_of};
-ghost use Rattle.mending.specs.Mender.{buffer_after, mended, outcome, room};
+ghost use Rattle.mending.specs.Mender.{buffer_after, length_or_error, mended, room};
+ghost use Rattle.mending.specs.Mends.{Mends};
 ghost use Rattle.reference.specs.Errors.{Lends, Shared, answer_of, from_tag, refusal};
 ghost use Rattle.reference.specs.Manual.{BranchRules, CompleteRules, PartialRules};
-ghost use Rattle.reference.specs.Names.{branch_name, capital as is_capital, complete as is_complete, complete_name, kept_from_branches, partial_name};
+ghost use Rattle.reference.specs.Names.{branch_name, complete_name, is_capital, is_complete, kept_from_branches, partial_name};
+ghost use Rattle.reference.specs.Refusals.{AppliesToBranch, AppliesToComplete, AppliesToPartial};
 
 pub mod display;
 
@@ -112,8 +113,11 @@ fn kept_from_branches(input: &[u8]) -> bool
 /// Whether `input` is an allowed partial name: then it is the answer itself, and else the first refusal is.
 pub fn name_partial(input: &[u8]) -> Result<&[u8], Error<'_>>
     ensures answer { answer_of result ≡ partial_name input.now }
+    ensures first { IsFirst (AppliesToPartial input.now) (answer_of result) }
+    ensures no_other { (a : Answer Value)
+        → IsFirst (AppliesToPartial input.now) a → a ≡ answer_of result }
     ensures view { Lends input.entry result }
-    ensures manual { Decides (is_ok result) (PartialRules input.now) }
+    ensures manual { IsTrue (is_ok result) ↔ PartialRules input.now }
 {
     tag::name(input)?;
     if input == b"@".as_slice() {
@@ -125,8 +129,11 @@ pub fn name_partial(input: &[u8]) -> Result<&[u8], Error<'_>>
 /// Whether `input` is an allowed complete name: then it is the answer itself, and else the first refusal is.
 pub fn name(input: &[u8]) -> Result<&[u8], Error<'_>>
     ensures answer { answer_of result ≡ complete_name input.now }
+    ensures first { IsFirst (AppliesToComplete input.now) (answer_of result) }
+    ensures no_other { (a : Answer Value)
+        → IsFirst (AppliesToComplete input.now) a → a ≡ answer_of result }
     ensures view { Lends input.entry result }
-    ensures manual { Decides (is_ok result) (CompleteRules input.now) }
+    ensures manual { IsTrue (is_ok result) ↔ CompleteRules input.now }
 {
     name_partial(input)?;
     if !complete(input) {
@@ -138,8 +145,11 @@ pub fn name(input: &[u8]) -> Result<&[u8], Error<'_>>
 /// Whether `input` is an allowed branch name: then it is the answer itself, and else the first refusal is.
 pub fn branch_name(input: &[u8]) -> Result<&[u8], Error<'_>>
     ensures answer { answer_of result ≡ branch_name input.now }
+    ensures first { IsFirst (AppliesToBranch input.now) (answer_of result) }
+    ensures no_other { (a : Answer Value)
+        → IsFirst (AppliesToBranch input.now) a → a ≡ answer_of result }
     ensures view { Lends input.entry result }
-    ensures manual { Decides (is_ok result) (BranchRules input.now) }
+    ensures manual { IsTrue (is_ok result) ↔ BranchRules input.now }
 {
     name(input)?;
     if kept_from_branches(input) {
@@ -151,13 +161,17 @@ pub fn branch_name(input: &[u8]) -> Result<&[u8], Error<'_>>
 /// Mends `input` into a handle at the front of the buffer, an allowed partial name, and answers its length. The bytes after
 /// it become zero, up to the length of the input and at least one; later bytes stay. A shorter buffer is refused and stays.
 pub fn name_partial_or_sanitize(input: &[u8], out: &mut [u8]) -> Result<usize, mending::Error>
-    ensures answer { outcome_of result ≡ outcome input.now (length out.old) }
-    ensures buffer { out.new ≡ buffer_after input.now out.old }
+    ensures answer { result ≡ length_or_error (mended input.now) input.now (length out.old) }
+    ensures buffer { out.new ≡ buffer_after (mended input.now) input.now out.old }
     ensures text { IfOk result (λ n. take n out.new ≡ mended input.now) }
+    ensures mends { IfOk result (λ n. Mends input.now (take n out.new)) }
+    ensures no_other { IfOk result (λ n. (t : List ℕ) → Mends input.now t → t ≡ take n out.new) }
     ensures always_allowed { IfOk result (λ n. partial_name (take n out.new) ≡ allowed) }
     ensures no_longer { IfOk result (λ n. n ≤ room input.now) }
-    ensures allowed_stays { partial_name input.now ≡ allowed → IfOk result (λ n. take n out.new ≡ input.now) }
-    ensures settled { mended (mended input.now) ≡ mended input.now }
+    ensures allowed_stays { partial_name input.now ≡ allowed
+        → IfOk result (λ n. take n out.new ≡ input.now) }
+    ensures mended_again { IfOk result (λ n. mended (take n out.new) ≡ take n out.new) }
+    ensures mended_twice { mended (mended input.now) ≡ mended input.now }
 {
     mending::mend(input, out)
 }

@@ -3,24 +3,26 @@ use Rattle.std.proofs.Common.{◌≡◌, ℕ, ◌<◌, ◌≤◌, List, length, 
 use Rattle.std.proofs.lemmas.Bool.{le-leb, lt-leb}
 use Rattle.std.specs.Option.{ok_or}
 use Rattle.protections.specs.declared.rules.Mode.{Mode}
-use Rattle.claims.specs.Entries.{place_of, put, slot, strike}
-use Rattle.claims.specs.Calls.{Call, Fault, Kept, Meaning, Outcome, after_by, answer, changed, entering, entries_after, first_meeting, name_fault, number_at, offering, removing, renaming}
-use Rattle.claims.specs.Calls.Call.{enter, offer}
-use Rattle.claims.specs.Calls.Fault.{by_state}
-use Rattle.claims.specs.Calls.Outcome.{accepted, declined}
+use Rattle.register_model.specs.Entries.{new_entry, place_of, put, slot, strike}
+use Rattle.register_model.specs.Calls.{Call, Fault, Kept, Meaning, Outcome, State, after_by, answer, changed, entering, state_after, first_meeting, name_fault, number_at, offering, removing, renaming}
+use Rattle.register_model.specs.Calls.Call.{enter, offer}
+use Rattle.register_model.specs.Calls.Fault.{by_state}
+use Rattle.register_model.specs.Calls.Outcome.{accepted, declined}
+use Rattle.register_model.specs.declared.TheConstants.{CAPACITY, LONGEST_NAME}
 use Rattle.std.specs.List.{remove}
 use Rattle.register.specs.Entries.{renamed}
 use Rattle.register.proofs.Striking.{Stands}
 
+module _ (m : Meaning) (s : State) where
+  -- A refused call leaves the state.
+  pub refused_leaves : (c : Call) (f : Fault) → declined f ≡ answer m s c → s ≡ state_after m s c
+  refused_leaves c f e = ap (λ o. after_by o s (changed m s c)) e
+
+  -- An accepted call changes it.
+  pub accepted_leaves : (c : Call) (p : ℕ) → accepted p ≡ answer m s c → changed m s c ≡ state_after m s c
+  accepted_leaves c p e = ap (λ o. after_by o s (changed m s c)) e
+
 module _ (m : Meaning) (es : Kept) where
-  -- A refused call leaves the entries.
-  pub refused_leaves : (c : Call) (f : Fault) → declined f ≡ answer m es c → es ≡ entries_after m es c
-  refused_leaves c f e = ap (λ o. after_by o es (changed m es c)) e
-
-  -- An accepted call changes them.
-  pub accepted_leaves : (c : Call) (p : ℕ) → accepted p ≡ answer m es c → changed m es c ≡ entries_after m es c
-  accepted_leaves c p e = ap (λ o. after_by o es (changed m es c)) e
-
   module _ (x : List ℕ) (mode : Option Mode) where
     -- Enter: the name has a fault.
     pub enter_faulty : (f : Fault) → Some f ≡ name_fault m x mode → declined f ≡ entering m es x mode
@@ -35,14 +37,14 @@ module _ (m : Meaning) (es : Kept) where
 
       module _ (unmet : None ≡ first_meeting m.together None x es) where
         -- There is no room.
-        pub enter_full : 128 ≤ length es → declined (by_state 42 0) ≡ entering m es x mode
+        pub enter_full : CAPACITY ≤ length es → declined (by_state 42 0) ≡ entering m es x mode
         unfolding entering
-        enter_full l = rw (← fine, ← unmet, le-leb 128 (length es) l)
+        enter_full l = rw (← fine, ← unmet, le-leb CAPACITY (length es) l)
 
         -- It is put in.
-        pub enter_accepted : length es < 128 → accepted (slot x es) ≡ entering m es x mode
+        pub enter_accepted : length es < CAPACITY → accepted (slot x es) ≡ entering m es x mode
         unfolding entering
-        enter_accepted l = rw (← fine, ← unmet, lt-leb 128 (length es) l)
+        enter_accepted l = rw (← fine, ← unmet, lt-leb CAPACITY (length es) l)
 
   -- Remove: the name is not kept.
   pub remove_unkept : (x : List ℕ) → None ≡ place_of x es → declined (by_state 43 0) ≡ removing es x
@@ -81,34 +83,30 @@ module _ (m : Meaning) (es : Kept) where
 
   -- The entry that is put in when a name is renamed.
   pub renamed_entry : (old new : List ℕ) (mode : Option Mode) (from : ℕ) → Stands old es from
-      → put (renamed es from new mode) (remove es from) ≡ put (record { name = new; number = number_at old es; mode = mode }) (strike old es)
+      → put (renamed es from new mode) (remove es from) ≡ put (new_entry new (number_at old es) mode) (strike old es)
   renamed_entry old new mode from s =
-      ap (λ n. put (record { name = new; number = n; mode = mode }) (remove es from)) (sym s.numbered)
-      ∙ ap (put (record { name = new; number = number_at old es; mode = mode })) (sym s.struck)
+      ap (λ n. put (new_entry new n mode) (remove es from)) (sym s.numbered)
+      ∙ ap (put (new_entry new (number_at old es) mode)) (sym s.struck)
 
   -- Offer: the text is too long.
-  pub offer_long : (text : List ℕ) → 255 < length text → declined (by_state 32 0) ≡ offering m es text
+  pub offer_long : (text : List ℕ) → LONGEST_NAME < length text → declined (by_state 32 0) ≡ offering m es text
   unfolding offering
-  offer_long text l = rw (lt-leb (length text) 255 l)
+  offer_long text l = rw (lt-leb (length text) LONGEST_NAME l)
 
   -- Its mended text is entered.
-  pub offer_enters : (text : List ℕ) → length text ≤ 255 → entering m es (m.mended text) None ≡ offering m es text
+  pub offer_enters : (text : List ℕ) → length text ≤ LONGEST_NAME → entering m es (m.mended text) None ≡ offering m es text
   unfolding offering
-  offer_enters text l = rw (le-leb (length text) 255 l)
+  offer_enters text l = rw (le-leb (length text) LONGEST_NAME l)
 
--- An offer, from the enter of its mended text x by a register n that enters as m does.
-module _ (m n : Meaning) (es : Kept) (alike : (z : List ℕ) → entering n es z None ≡ entering m es z None)
-    (text x : List ℕ) (e : x ≡ m.mended text) (l : length text ≤ 255) where
-  offers_as : entering n es (m.mended text) None ≡ offering m es text
-  offers_as = alike (m.mended text) ∙ offer_enters m es text l
+-- An offer, from the enter of its mended text x.
+module _ (m : Meaning) (s : State) (text x : List ℕ) (e : x ≡ m.mended text) (l : length text ≤ LONGEST_NAME) where
+  pub offer_answer : (o : Outcome) → o ≡ entering m s.kept x None → o ≡ offering m s.kept text
+  offer_answer o a = a ∙ (ap (λ z. entering m s.kept z None) e ∙ offer_enters m s.kept text l)
 
-  pub offer_answer : (o : Outcome) → o ≡ entering n es x None → o ≡ offering m es text
-  offer_answer o a = a ∙ (ap (λ z. entering n es z None) e ∙ offers_as)
-
-  pub offer_leaves : (k : ℕ) (fs : Kept) → fs ≡ entries_after n es (enter x k None) → fs ≡ entries_after m es (offer text k)
-  offer_leaves k fs a =
-      a ∙ (ap (λ z. after_by (entering n es z None) es (put (record { name = z; number = k; mode = None }) es)) e
-      ∙ ap (λ o. after_by o es (put (record { name = m.mended text; number = k; mode = None }) es)) offers_as)
+  pub offer_leaves : (k : ℕ) (after : State) → after ≡ state_after m s (enter x k None) → after ≡ state_after m s (offer text k)
+  offer_leaves k after a =
+      a ∙ (ap (λ z. after_by (entering m s.kept z None) s (record { kept = put (new_entry z k None) s.kept })) e
+      ∙ ap (λ o. after_by o s (record { kept = put (new_entry (m.mended text) k None) s.kept })) (offer_enters m s.kept text l))
 
 -- A place that is asked for, or else a refusal.
 pub place_kept : {E : Type 0} (o : Option ℕ) (e : E) (p : ℕ) → ok_or o e ≡ Ok p → Some p ≡ o

@@ -6,6 +6,8 @@ pub mod Renaming
 pub mod Searching
 pub mod Striking
 pub mod Answering
-pub mod Judging
+pub mod Components
 pub mod Naming
 pub mod Parting
+pub mod Making
+pub mod Lawful

@@ -9,46 +9,46 @@ use Rattle.std.proofs.lemmas.Bool.{cases_Bool, cases_lt}
 use Rattle.std.proofs.lemmas.Bool.Decides.{nat_tests}
 use Rattle.std.proofs.lemmas.List.Sorted.{ranks_by, searchable_from_sorted, sorted_far}
 use Rattle.std.proofs.lemmas.List.Edits.{get_or-insert_above, get_or-insert_at, get_or-insert_below, get_or-remove_above, get_or-remove_below, length-insert, length-remove}
-use Rattle.claims.specs.Entries.{Entry, before, put, slot}
+use Rattle.register_model.specs.Entries.{Entry, precedes, put, slot}
 use Rattle.register.specs.Entries.{InOrder}
 
--- The library's comparison of byte strings decides as `before` does.
-pub is_lt-slice_cmp : (x y : List ℕ) → is_lt (slice_cmp nat_cmp x y) ≡ before x y
-unfolding before
+-- The library's comparison of byte strings decides as `precedes` does.
+pub is_lt-slice_cmp : (x y : List ℕ) → is_lt (slice_cmp nat_cmp x y) ≡ precedes x y
+unfolding precedes
 is_lt-slice_cmp x y =
-    same_from_slice_cmp nat_cmp is_lt before refl (λ _ _. refl) (λ _ _. refl) (λ a b xs ys o h. grind (arith, nat_tests)) x y _ refl
+    same_from_slice_cmp nat_cmp is_lt precedes refl (λ _ _. refl) (λ _ _. refl) (λ a b xs ys o h. grind (arith, nat_tests)) x y _ refl
 
-pub is_lt-slice_partial_cmp : (x y : List ℕ) (r : Bool) → r ≡ is_some_and is_lt (slice_partial_cmp (λ a b. Some (nat_cmp a b)) x y) → r ≡ before x y
-unfolding before
+pub is_lt-slice_partial_cmp : (x y : List ℕ) (r : Bool) → r ≡ is_some_and is_lt (slice_partial_cmp (λ a b. Some (nat_cmp a b)) x y) → r ≡ precedes x y
+unfolding precedes
 is_lt-slice_partial_cmp x y r e =
-    same_from_slice_cmp_tested nat_cmp is_lt before refl (λ _ _. refl) (λ _ _. refl) (λ a b xs ys o h. grind (arith, nat_tests)) x y r e
+    same_from_slice_cmp_tested nat_cmp is_lt precedes refl (λ _ _. refl) (λ _ _. refl) (λ a b xs ys o h. grind (arith, nat_tests)) x y r e
 
 module _ {M : Type 0} where
-  -- Where a later name comes before x, an earlier one does.
-  pub before_splits : (es : List (Entry M)) (x : List ℕ) → InOrder es → IsPartitionedBy (λ e. before e.name x) es
-  before_splits es x sorted i j d le in_range h =
+  -- Where a later name precedes x, an earlier one does.
+  pub precedes_splits : (es : List (Entry M)) (x : List ℕ) → InOrder es → IsPartitionedBy (λ e. precedes e.name x) es
+  precedes_splits es x sorted i j d le in_range h =
       let e = get_or es i d in
       let f = get_or es j d in
       let rises = searchable_from_sorted nat_list_cmp_total (λ (e : Entry M). e.name) es x sorted i j d le in_range in
       grind (arith, nat_tests, rises, is_lt-slice_cmp e.name x, is_lt-slice_cmp f.name x, is_lt_index (slice_cmp nat_cmp e.name x), is_lt_index (slice_cmp nat_cmp f.name x))
 
-  -- The names before a name's place come before it, and the one at the place does not.
-  pub slot_before : (x : List ℕ) (es : List (Entry M)) (k : ℕ) (d : Entry M) → k < slot x es → before (get_or es k d).name x ≡ true
+  -- The names before a name's place precede it, and the one at the place does not.
+  pub slot_before : (x : List ℕ) (es : List (Entry M)) (k : ℕ) (d : Entry M) → k < slot x es → precedes (get_or es k d).name x ≡ true
   unfolding slot
   slot_before x [] k d l = absurd (omega arith)
-  slot_before x (e ∷ es) zero d l = elim (cases_Bool (before e.name x)) [
+  slot_before x (e ∷ es) zero d l = elim (cases_Bool (precedes e.name x)) [
     | inl t ↦ t
     | inr f ↦ let none : 0 < 0 = rw f at l in absurd (omega arith)
   ]
-  slot_before x (e ∷ es) (suc k) d l = elim (cases_Bool (before e.name x)) [
+  slot_before x (e ∷ es) (suc k) d l = elim (cases_Bool (precedes e.name x)) [
     | inl t ↦ slot_before x es k d (let m : suc k < suc (slot x es) = rw t at l in omega arith)
     | inr f ↦ let none : suc k < 0 = rw f at l in absurd (omega arith)
   ]
 
-  pub slot_here : (x : List ℕ) (es : List (Entry M)) (d : Entry M) → slot x es < length es → before (get_or es (slot x es) d).name x ≡ false
+  pub slot_here : (x : List ℕ) (es : List (Entry M)) (d : Entry M) → slot x es < length es → precedes (get_or es (slot x es) d).name x ≡ false
   unfolding slot
   slot_here x [] d l = absurd (omega arith)
-  slot_here x (e ∷ es) d l = elim (cases_Bool (before e.name x)) [
+  slot_here x (e ∷ es) d l = elim (cases_Bool (precedes e.name x)) [
     | inl t ↦ rw t (slot_here x es d (let m : suc (slot x es) < suc (length es) = rw t at l in omega arith))
     | inr f ↦ rw f f
   ]
@@ -57,7 +57,7 @@ module _ {M : Type 0} where
   pub slot_within : (x : List ℕ) (es : List (Entry M)) → slot x es ≤ length es
   unfolding slot
   slot_within x [] = omega arith
-  slot_within x (e ∷ es) = elim (cases_Bool (before e.name x)) [
+  slot_within x (e ∷ es) = elim (cases_Bool (precedes e.name x)) [
     | inl t ↦ rw t (let m = slot_within x es in omega arith)
     | inr f ↦ rw f (omega arith)
   ]

@@ -10,23 +10,23 @@ use Rattle.std.proofs.lemmas.Slice.Eq.{bytes_eq-Decides, slice_eq-Decides}
 use Rattle.std.specs.Iterator.Adapters.{zip_first, zip_second}
 use Rattle.std.specs.declared.iter.Zip.{Zip}
 use Rattle.tag.specs.Components.{components}
-use Rattle.tag.specs.Parts.{parts_left}
+use Rattle.tag.specs.ComponentsLeft.{components_left}
 use Rattle.tag.specs.declared.components.Components.{Components}
 use Rattle.meetings.specs.Meeting.{meet, meet_parts}
 use Rattle.meetings.proofs.Meetings.{meet_none, not_same}
-use Rattle.claims.specs.Calls.{left_out}
+use Rattle.register_model.specs.Calls.{left_aside}
 
 -- The test of a row, from whether its name is left out and whether it meets the new one.
-pub passes : (together : List ℕ → List ℕ → Bool) (except : Option (List ℕ)) (old x new : List ℕ) (out met : Bool)
-    → old ≡ x → out ≡ left_out except old → meet together old new ≡ met
-    → (not (left_out except x) && meet together x new) ≡ (not out && met)
-passes together except old x new out met e o m =
-    ap (λ z. not (left_out except z) && meet together z new) (sym e)
+pub passes : (together : List ℕ → List ℕ → Bool) (aside : Option (List ℕ)) (old x new : List ℕ) (out met : Bool)
+    → old ≡ x → out ≡ left_aside aside old → meet together old new ≡ met
+    → (not (left_aside aside x) && meet together x new) ≡ (not out && met)
+passes together aside old x new out met e o m =
+    ap (λ z. not (left_aside aside z) && meet together z new) (sym e)
     ∙ (ap (λ z. not z && meet together old new) (sym o) ∙ ap (λ z. not out && z) m)
 
 -- The comparison with the name that is left out, if any is.
-pub out_is : (except : Option (Bor (List ℕ))) (old : Bor (List ℕ)) (r : Bool)
-    → r ≡ option_eq (λ x y. pointwise nat_eq x.now y.now) except (Some old) → r ≡ left_out (option_map (λ x. x.now) except) old.now
+pub out_is : (aside : Option (Bor (List ℕ))) (old : Bor (List ℕ)) (r : Bool)
+    → r ≡ option_eq (λ x y. pointwise nat_eq x.now y.now) aside (Some old) → r ≡ left_aside (option_map (λ x. x.now) aside) old.now
 out_is None old r e = e
 out_is (Some x) old r e =
     let d = slice_eq-Decides Decides-eqb x.now old.now r e in
@@ -35,8 +35,8 @@ out_is (Some x) old r e =
 module _ (together : List ℕ → List ℕ → Bool) where
   -- Two names from their components, as two iterators side by side give them.
   pub side_by_side : (a b : List ℕ) {it zipped : Zip Components Components} {p q : Components} → it ≡ zipped → zip_first zipped ≡ p
-      → zip_second zipped ≡ q → parts_left p ≡ components a → parts_left q ≡ components b
-      → meet_parts together (parts_left (zip_first it)) (parts_left (zip_second it)) ≡ meet together a b
+      → zip_second zipped ≡ q → components_left p ≡ components a → components_left q ≡ components b
+      → meet_parts together (components_left (zip_first it)) (components_left (zip_second it)) ≡ meet together a b
   unfolding meet
   side_by_side a b i f s e h = rw (i, f, s, e, h)
 

@@ -10,16 +10,16 @@ use Rattle.std.proofs.lemmas.Cmp.{nat_list_cmp_total}
 use Rattle.std.proofs.lemmas.List.Sorted.{ranks_by, sorted_far}
 use Rattle.std.proofs.lemmas.Option.{slice_get-get_or, slice_get_past}
 use Rattle.std.proofs.lemmas.Slice.Eq.{bytes_eq-Decides}
-use Rattle.claims.specs.Entries.{Entry, before, first_place, place_of, slot}
-use Rattle.claims.proofs.Orders.{before_after}
+use Rattle.register_model.specs.Entries.{Entry, precedes, first_place, place_of, slot}
+use Rattle.register_model.proofs.Orders.{precedes_turned}
 use Rattle.register.specs.Entries.{InOrder}
 use Rattle.register.proofs.Ordering.{is_lt-slice_cmp}
 
--- A name does not come before itself.
-before_itself : (x : List ℕ) → before x x ≡ false
-unfolding before
-before_itself [] = refl
-before_itself (b ∷ x) = let more = before_itself x in grind (arith, nat_tests)
+-- A name does not come precedes itself.
+precedes_itself : (x : List ℕ) → precedes x x ≡ false
+unfolding precedes
+precedes_itself [] = refl
+precedes_itself (b ∷ x) = let more = precedes_itself x in grind (arith, nat_tests)
 
 module _ {M : Type 0} (x : List ℕ) where
   -- The place i, if the entry that stands there has the name.
@@ -38,21 +38,21 @@ module _ {M : Type 0} (x : List ℕ) where
   none_placed (e ∷ es) h = rw (h 0 e (omega arith)) (ap (option_map suc) (none_placed es (λ k d l. h (suc k) d (omega arith))))
 
   -- After an entry whose name comes after x, none has the name.
-  none_after : (e : Entry M) (es : List (Entry M)) → InOrder (e ∷ es) → before e.name x ≡ false → bytes_eq e.name x ≡ false
+  none_after : (e : Entry M) (es : List (Entry M)) → InOrder (e ∷ es) → precedes e.name x ≡ false → bytes_eq e.name x ≡ false
       → (k : ℕ) (d : Entry M) → k < length es → bytes_eq (get_or es k d).name x ≡ false
   none_after e es sorted f n k d l = elim (cases_Bool (bytes_eq (get_or es k d).name x)) [
     | inl t ↦
         let same = (bytes_eq-Decides (get_or es k d).name x).0 t in
-        let first : before x e.name ≡ true = before_after e.name x f (λ q. both_ways _ n ((bytes_eq-Decides e.name x).1 q)) in
+        let first : precedes x e.name ≡ true = precedes_turned e.name x f (λ q. both_ways _ n ((bytes_eq-Decides e.name x).1 q)) in
         let far = sorted_far _ (ranks_by nat_list_cmp_total (λ (e : Entry M). e.name)) (e ∷ es) sorted 0 (suc k) d (omega arith) (omega arith) in
-        absurd (both_ways _ far (is_lt-slice_cmp (get_or es k d).name e.name ∙ (ap (λ z. before z e.name) same ∙ first)))
+        absurd (both_ways _ far (is_lt-slice_cmp (get_or es k d).name e.name ∙ (ap (λ z. precedes z e.name) same ∙ first)))
     | inr g ↦ g
   ]
 
-  -- A name that comes before x is another.
-  other : (e : Entry M) → before e.name x ≡ true → bytes_eq e.name x ≡ false
+  -- A name that comes precedes x is another.
+  other : (e : Entry M) → precedes e.name x ≡ true → bytes_eq e.name x ≡ false
   other e t = elim (cases_Bool (bytes_eq e.name x)) [
-    | inl q ↦ absurd (both_ways _ (ap (λ z. before z x) ((bytes_eq-Decides e.name x).0 q) ∙ before_itself x) t)
+    | inl q ↦ absurd (both_ways _ (ap (λ z. precedes z x) ((bytes_eq-Decides e.name x).0 q) ∙ precedes_itself x) t)
     | inr n ↦ n
   ]
 
@@ -64,7 +64,7 @@ module _ {M : Type 0} (x : List ℕ) where
   pub place_by_slot : (es : List (Entry M)) → InOrder es → place_of x es ≡ if_named (slice_get es (slot x es)) (slot x es)
   unfolding first_place slot
   place_by_slot [] sorted = refl
-  place_by_slot (e ∷ es) sorted = elim (cases_Bool (before e.name x)) [
+  place_by_slot (e ∷ es) sorted = elim (cases_Bool (precedes e.name x)) [
     | inl t ↦ rw (t, other e t)
         (ap (option_map suc) (place_by_slot es (rising_tail e es sorted)) ∙ named_later (slice_get es (slot x es)) (slot x es))
     | inr f ↦ rw f (elim (cases_Bool (bytes_eq e.name x)) [

@@ -3,18 +3,18 @@ use Rattle.std.proofs.Common.{◌≡◌, ℕ, zero, suc, ◌<◌, List, [], ◌�
 use Rattle.std.specs.List.{refill, remove}
 use Rattle.std.proofs.lemmas.List.{drop-set-lt, get_or-set_same, length-map, length-set, take-set}
 use Rattle.arrayvec.proofs.ArrayVecLemmas.{items-with_items}
-use Rattle.claims.specs.Calls.{Kept}
-use Rattle.register.specs.Entries.{number_in}
+use Rattle.register_model.specs.Calls.{Kept}
+use Rattle.register.specs.Entries.{number_by_place}
 use Rattle.register.specs.Rows.{entry_of}
 use Rattle.register.specs.declared.table.Row.{Row}
 use Rattle.register.proofs.Rows.{taken_out}
 
 -- The number of the entry at a place is that of its row.
-number_in-rows : (p : ℕ) (rows : List Row) (d : Row) → p < length rows → number_in p (map entry_of rows) ≡ (get_or rows p d).number
-unfolding number_in
-number_in-rows p [] d l = absurd (omega arith)
-number_in-rows zero (r ∷ rows) d l = refl
-number_in-rows (suc p) (r ∷ rows) d l = number_in-rows p rows d (omega arith)
+number_by_place-rows : (p : ℕ) (rows : List Row) (d : Row) → p < length rows → number_by_place p (map entry_of rows) ≡ (get_or rows p d).number
+unfolding number_by_place
+number_by_place-rows p [] d l = absurd (omega arith)
+number_by_place-rows zero (r ∷ rows) d l = refl
+number_by_place-rows (suc p) (r ∷ rows) d l = number_by_place-rows p rows d (omega arith)
 
 module _ (rows lent : List Row) (es : Kept) (p : ℕ) (inside : p < length es) (shown : map entry_of rows ≡ es) (same : lent ≡ rows) (new : Row) where
   within : p < length rows
@@ -42,5 +42,5 @@ module _ (rows lent : List Row) (es : Kept) (p : ℕ) (inside : p < length es) (
       ∙ (ap (λ a. a ++ drop (suc p) (set rows p new)) (take-set rows p new) ∙ ap (λ b. take p rows ++ b) (drop-set-lt (suc p) rows p new less))))
 
   -- The number at the place is that of the row.
-  pub number_lent : (d : Row) → (get_or lent p d).number ≡ number_in p es
-  number_lent d = ap (λ l. (get_or l p d).number) same ∙ (sym (number_in-rows p rows d within) ∙ ap (number_in p) shown)
+  pub number_lent : (d : Row) → (get_or lent p d).number ≡ number_by_place p es
+  number_lent d = ap (λ l. (get_or l p d).number) same ∙ (sym (number_by_place-rows p rows d within) ∙ ap (number_by_place p) shown)

@@ -4,25 +4,25 @@ use Rattle.std.proofs.Math.ListN.{get_or-map}
 use Rattle.std.specs.List.{AllWithin, insert, remove}
 use Rattle.std.specs.List.Sorted.{IsPartitionedBy}
 use Rattle.std.proofs.lemmas.List.{drop-map, drop_all, drop_more, length-map, map-append, take-map}
-use Rattle.claims.specs.Calls.{Kept}
-use Rattle.claims.specs.Entries.{before, put, slot}
+use Rattle.register_model.specs.Calls.{Kept}
+use Rattle.register_model.specs.Entries.{precedes, put, slot}
 use Rattle.register.specs.Entries.{InOrder}
 use Rattle.register.specs.Rows.{entry_of}
 use Rattle.register.specs.declared.table.Row.{Row}
-use Rattle.register.proofs.Ordering.{before_splits}
+use Rattle.register.proofs.Ordering.{precedes_splits}
 
 module _ (rows : List Row) (x : List ℕ) where
-  named : (k : ℕ) (d : Row) → before (get_or (map entry_of rows) k (entry_of d)).name x ≡ before (get_or rows k d).name.items x
-  named k d = ap (λ e. before e.name x) (get_or-map entry_of rows k d)
+  named : (k : ℕ) (d : Row) → precedes (get_or (map entry_of rows) k (entry_of d)).name x ≡ precedes (get_or rows k d).name.items x
+  named k d = ap (λ e. precedes e.name x) (get_or-map entry_of rows k d)
 
-  -- Where the name of a later row comes before x, that of an earlier one does.
-  pub rows_split : InOrder (map entry_of rows) → IsPartitionedBy (λ r. before r.name.items x) rows
+  -- Where the name of a later row comes precedes x, that of an earlier one does.
+  pub rows_split : InOrder (map entry_of rows) → IsPartitionedBy (λ r. precedes r.name.items x) rows
   rows_split sorted i j d le in_range h =
-      sym (named i d) ∙ before_splits (map entry_of rows) x sorted i j (entry_of d) le (omega (arith, length-map rows entry_of)) (named j d ∙ h)
+      sym (named i d) ∙ precedes_splits (map entry_of rows) x sorted i j (entry_of d) le (omega (arith, length-map rows entry_of)) (named j d ∙ h)
 
--- The place between the rows whose names come before x and the others.
-pub slot_of_rows : (x : List ℕ) (rows : List Row) (i : ℕ) → i ≤ length rows → AllWithin (λ r. before r.name.items x ≡ true) rows 0 i
-    → AllWithin (λ r. before r.name.items x ≡ false) rows i (length rows) → slot x (map entry_of rows) ≡ i
+-- The place between the rows whose names come precedes x and the others.
+pub slot_of_rows : (x : List ℕ) (rows : List Row) (i : ℕ) → i ≤ length rows → AllWithin (λ r. precedes r.name.items x ≡ true) rows 0 i
+    → AllWithin (λ r. precedes r.name.items x ≡ false) rows i (length rows) → slot x (map entry_of rows) ≡ i
 unfolding slot
 slot_of_rows x [] i l t f = omega arith
 slot_of_rows x (r ∷ rows) zero l t f = rw (f 0 r (omega arith) (omega arith))

@@ -1,4 +1,4 @@
--- The definitions that the contracts of the register cite, besides those of the crate claims.
+-- The definitions that the contracts of the register cite, besides those of the crate register_model.
 pub mod Entries
 pub mod Rows
 pub mod Faults

@@ -1,7 +1,7 @@
 -- The entry that a row holds.
 use Rattle.std.specs.Prelude.{Option}
 use Rattle.protections.specs.declared.rules.Mode.{Mode}
-use Rattle.claims.specs.Entries.{Entry}
+use Rattle.register_model.specs.Entries.{Entry}
 use Rattle.register.specs.declared.table.Row.{Row}
 
 abbrev pub entry_of : Row → Entry (Option Mode)

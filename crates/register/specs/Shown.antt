@@ -2,13 +2,13 @@
 use Rattle.std.specs.Prelude.{map, Option}
 use Rattle.std.specs.Slice.Iter.{iter_rest}
 use Rattle.protections.specs.declared.rules.Mode.{Mode}
-use Rattle.claims.specs.Calls.{Kept}
-use Rattle.claims.specs.Entries.{Entry as KeptEntry}
+use Rattle.register_model.specs.Calls.{Kept}
+use Rattle.register_model.specs.Entries as model
 use Rattle.register.specs.declared.entries.Entries.{Entries}
 use Rattle.register.specs.declared.questions.Entry.{Entry}
 use Rattle.register.specs.Rows.{entry_of}
 
-abbrev pub shown : Entry → KeptEntry (Option Mode)
+abbrev pub shown : Entry → model.Entry (Option Mode)
 shown e = record { name = e.name.now; number = e.number; mode = e.mode }
 
 -- The entries of the rows that are left.

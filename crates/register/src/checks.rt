@@ -1,26 +1,29 @@
 //! What is wrong with a name and its mode by themselves, and whether a kept name meets a new one.
-ghost use Rattle.std.specs.Prelude.{◌≡◌, ℕ, ◌<◌, ◌≤◌, length, IfOk, MatchResult, None as no_fault, Some as met_place};
+ghost use Rattle.std.specs.Prelude.{◌≡◌, ℕ, ◌<◌, ◌≤◌, List, length, IfOk, MatchResult};
 ghost use Rattle.std.specs.Option.{option_map};
 ghost use Rattle.tag.specs.Components.{components};
-ghost use Rattle.claims.specs.Calls.{first_meeting, first_verdict, name_fault, or_else};
+ghost use Rattle.register_model.specs.Calls.{first_meeting, first_verdict, name_fault, or_else};
 ghost use Rattle.register.specs.Faults.{fault_of};
-ghost use Rattle.register.specs.declared.faults.StateFault.TheVariants.{Met as met_at, TooLong as too_long};
+ghost use Rattle.register_model.specs.declared.TheConstants.{LONGEST_NAME};
 ghost use Rattle.register.specs.Meanings.{meaning_of};
 ghost use Rattle.register.specs.Registers.{entries_in};
 
 use crate::Register;
 use crate::faults::{Fault, StateFault};
-use crate::table::{LONGEST, Name};
+use crate::table::Name;
 use filesystems::FileSystem;
 use protections::Mode;
+use register_model::LONGEST_NAME;
 use rulebooks::{Rulebook, ask};
 use tag::components::Components;
 
 /// Refuses a name or text that is longer than a kept name may be.
-pub(crate) fn fits(text: &[u8]) -> Result<(), StateFault>
-    ensures { MatchResult result (λ _. length text.now ≤ 255) (λ fault. (255 < length text.now) × (fault ≡ too_long)) }
+pub(crate) fn check_length(text: &[u8]) -> Result<(), StateFault>
+    ensures { MatchResult result
+        (λ _. length text.now ≤ LONGEST_NAME)
+        (λ fault. (LONGEST_NAME < length text.now) × (fault ≡ StateFault.TooLong)) }
 {
-    if text.len() > LONGEST {
+    if text.len() > LONGEST_NAME {
         return Err(StateFault::TooLong);
     }
     Ok(())
@@ -28,19 +31,22 @@ pub(crate) fn fits(text: &[u8]) -> Result<(), StateFault>
 
 /// The name as it is kept, unless it is too long, which the conversion tells.
 fn kept_name(name: &[u8]) -> Result<Name, StateFault>
-    ensures { MatchResult result (λ kept. (kept.items ≡ name.now) × (length name.now ≤ 255)) (λ fault. (255 < length name.now) × (fault ≡ too_long)) }
+    ensures { MatchResult result
+        (λ kept. (kept.items ≡ name.now) × (length name.now ≤ LONGEST_NAME))
+        (λ fault. (LONGEST_NAME < length name.now) × (fault ≡ StateFault.TooLong)) }
 {
     Name::try_from(name).map_err(|_| StateFault::TooLong)
 }
 
 /// The verdict on the component at this index.
-fn judge<F: FileSystem>(
+fn check_component<F: FileSystem>(
     files: &F,
     component: &[u8],
     mode: Option<Mode>,
     index: usize,
 ) -> Result<(), Fault>
-    ensures { fault_of result ≡ or_else (F.FileSystem.judged files.now component.now mode) index no_fault }
+    ensures { fault_of result
+        ≡ or_else (F.FileSystem.verdict_of files.now component.now mode) index None }
 {
     files
         .verdict(component, mode)
@@ -48,14 +54,15 @@ fn judge<F: FileSystem>(
 }
 
 /// The verdicts on the components from the left: the mode is the last one's, and earlier ones have none.
-fn judge_components<F: FileSystem>(files: &F, name: &Name, mode: Option<Mode>) -> Result<(), Fault>
-    ensures { fault_of result ≡ first_verdict (F.FileSystem.judged files.now) mode 0 (components name.now.items) }
+fn check_components<F: FileSystem>(files: &F, name: &Name, mode: Option<Mode>) -> Result<(), Fault>
+    ensures { fault_of result
+        ≡ first_verdict (F.FileSystem.verdict_of files.now) mode 0 (components name.now.items) }
 {
     // Two passes and a plain `for`: with `peekable` it would be a `while let` with a `peek` in each turn.
     let last = Components::of(name).count() - 1;
     for (index, component) in Components::of(name).enumerate() {
         let own = if index == last { mode } else { None };
-        judge(files, component, own, index)?;
+        check_component(files, component, own, index)?;
     }
     Ok(())
 }
@@ -63,21 +70,26 @@ fn judge_components<F: FileSystem>(files: &F, name: &Name, mode: Option<Mode>) -
 impl<R: Rulebook, F: FileSystem> Register<R, F> {
     /// Checks a name by itself: its length, the rulebook, and the verdicts on its components. The answer is the name as it is kept.
     pub(crate) fn checked(&self, name: &[u8], mode: Option<Mode>) -> Result<Name, Fault>
-        ensures fault { fault_of result ≡ name_fault (meaning_of R.Rulebook F.FileSystem self.now.files) name.now mode }
+        ensures fault { (mended : List ℕ → List ℕ) → fault_of result
+            ≡ name_fault (meaning_of R.Rulebook mended F.FileSystem self.now.files) name.now mode }
         ensures name { IfOk result (λ kept. kept.items ≡ name.now) }
     {
         let kept = kept_name(name)?;
         ask(&self.rules, name)?;
-        judge_components(&self.files, &kept, mode)?;
+        check_components(&self.files, &kept, mode)?;
         Ok(kept)
     }
 
-    /// Refuses a name that a kept one meets; the name `except` is left out.
-    pub(crate) fn unmet(&self, name: &[u8], except: Option<&[u8]>) -> Result<(), StateFault>
-        ensures { MatchResult result (λ _. no_fault ≡ first_meeting (F.FileSystem.together self.now.files) (option_map (λ x. x.now) except.entry) name.now (entries_in self.now)) (λ fault. (place : ℕ) × (met_place place ≡ first_meeting (F.FileSystem.together self.now.files) (option_map (λ x. x.now) except.entry) name.now (entries_in self.now)) × (fault ≡ met_at place)) }
+    /// Refuses a name that a kept one meets; the name `aside` does not count.
+    pub(crate) fn check_meeting(&self, name: &[u8], aside: Option<&[u8]>) -> Result<(), StateFault>
+        ensures { let met = first_meeting (F.FileSystem.together self.now.files)
+            (option_map (λ x. x.now) aside.entry) name.now (entries_in self.now) in
+            MatchResult result
+            (λ _. None ≡ met)
+            (λ fault. (place : ℕ) × (Some place ≡ met) × (fault ≡ StateFault.Met place)) }
     {
         self.table
-            .first_meeting(&self.files, name, except)
+            .first_meeting(&self.files, name, aside)
             .map_or(Ok(()), |place| Err(StateFault::Met { place }))
     }
 }

@@ -6,6 +6,8 @@ ghost use Rattle.register.specs.Shown.{entries_left, shown};
 
 use crate::table::Row;
 use crate::{Entry, Register};
+use filesystems::FileSystem;
+use rulebooks::Rulebook;
 use std::slice;
 
 /// The entries of a register that are still to come, in the order of their places.
@@ -26,7 +28,7 @@ impl<'a> Iterator for Entries<'a> {
     }
 }
 
-impl<R, F> Register<R, F> {
+impl<R: Rulebook, F: FileSystem> Register<R, F> {
     /// The entries, in the order of their places.
     pub fn entries(&self) -> Entries<'_>
         ensures { entries_left result ≡ entries_in self.now }

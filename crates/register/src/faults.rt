@@ -1,8 +1,8 @@
 //! Why a register refuses a call: by its rulebook, by its file system, or by what it keeps.
 ghost use Rattle.std.specs.Prelude.{◌≡◌};
-ghost use Rattle.claims.specs.Calls.{number_of};
-ghost use Rattle.register.specs.Faults.{fault_in, state_in};
-ghost use Rattle.register.specs.declared.faults.Fault.TheVariants.{Rulebook as by_rules, State as by_register};
+ghost use Rattle.register_model.specs.Calls.{number_of};
+ghost use Rattle.register.specs.Faults.{fault_in, own_fault};
+ghost use Rattle.register.specs.declared.faults.Fault.TheVariants.{Rulebook, State};
 
 use protections::Verdict;
 use rulebooks::RulebookFault;
@@ -35,7 +35,7 @@ impl StateFault {
     /// The number of the refusal.
     // A table, since the cases of an enum of which one carries a place have no numbers of their own.
     pub fn number(&self) -> u8
-        ensures { result ≡ number_of (state_in self.now) }
+        ensures { result ≡ number_of (own_fault self.now) }
     {
         match *self {
             StateFault::TooLong => 32,
@@ -60,7 +60,7 @@ impl Fault {
 }
 
 impl From<RulebookFault> for Fault {
-    ghost from_gives = { λ f r. r ≡ by_rules f };
+    ghost from_gives = { λ f r. r ≡ Rulebook f };
 
     fn from(fault: RulebookFault) -> Fault {
         Fault::Rulebook(fault)
@@ -68,7 +68,7 @@ impl From<RulebookFault> for Fault {
 }
 
 impl From<StateFault> for Fault {
-    ghost from_gives = { λ f r. r ≡ by_register f };
+    ghost from_gives = { λ f r. r ≡ State f };
 
     fn from(fault: StateFault) -> Fault {
         Fault::State(fault)

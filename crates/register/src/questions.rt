@@ -1,18 +1,19 @@
 //! The questions to a register, which alter nothing.
-ghost use Rattle.std.specs.Prelude.{◌≡◌, ◌<◌, ◌≤◌, length, IfOk, None as left_out_none, MatchResult};
+ghost use Rattle.std.specs.Prelude.{◌≡◌, ◌<◌, ◌≤◌, length, IfOk, MatchResult};
 ghost use Rattle.std.specs.Option.{option_map};
 ghost use Rattle.std.specs.List.{slice_get};
-ghost use Rattle.claims.specs.Calls.{first_meeting};
-ghost use Rattle.claims.specs.Calls.Fault.{by_state};
-ghost use Rattle.claims.specs.Entries.{place_of};
-ghost use Rattle.claims.specs.Words.{FirstMet};
+ghost use Rattle.register_model.specs.Calls.{first_meeting};
+ghost use Rattle.register_model.specs.Calls.Fault.{by_state};
+ghost use Rattle.register_model.specs.Entries.{place_of};
+ghost use Rattle.register_model.specs.Reasons.{IsFirstMeeting, StandsAt};
+ghost use Rattle.register_model.specs.declared.TheConstants.{LONGEST_NAME};
 ghost use Rattle.register.specs.Faults.{fault_in};
 ghost use Rattle.register.specs.Registers.{entries_in};
 ghost use Rattle.register.specs.Rows.{entry_of};
 ghost use Rattle.register.specs.Shown.{shown};
 
 use crate::Register;
-use crate::checks::fits;
+use crate::checks::check_length;
 use crate::faults::Fault;
 use crate::table::Row;
 use filesystems::FileSystem;
@@ -47,19 +48,27 @@ impl<R: Rulebook, F: FileSystem> Register<R, F> {
         self.table.count()
     }
 
-    /// The place of a name, if it is kept.
+    /// The place of a name, if it is kept, and none exactly where it is not.
     pub fn find(&self, name: &[u8]) -> Option<usize>
-        ensures { result ≡ place_of name.now (entries_in self.now) }
+        ensures answer { result ≡ place_of name.now (entries_in self.now) }
+        ensures words { StandsAt name.now (entries_in self.now) result }
     {
         self.table.place_of(name)
     }
 
-    /// The place of the first kept name that meets this one, if there is one.
+    /// The place of the first kept name that meets this one, if there is one; 32 for a name that is too long.
     pub fn meeting(&self, name: &[u8]) -> Result<Option<usize>, Fault>
-        ensures answer { MatchResult result (λ p. (length name.now ≤ 255) × (p ≡ first_meeting (F.FileSystem.together self.now.files) left_out_none name.now (entries_in self.now))) (λ f. (255 < length name.now) × (fault_in f ≡ by_state 32 0)) }
-        ensures words { IfOk result (FirstMet (F.FileSystem.together self.now.files) name.now (entries_in self.now)) }
+        ensures answer { MatchResult result
+            (λ place.
+            (length name.now ≤ LONGEST_NAME)
+            × (place ≡ first_meeting (F.FileSystem.together self.now.files) None name.now
+            (entries_in self.now)))
+            (λ fault. (LONGEST_NAME < length name.now) × (fault_in fault ≡ by_state 32 0)) }
+        ensures words { IfOk result
+            (IsFirstMeeting (F.FileSystem.together self.now.files) None name.now
+            (entries_in self.now)) }
     {
-        fits(name)?;
+        check_length(name)?;
         Ok(self.table.first_meeting(&self.files, name, None))
     }
 

@@ -1,25 +1,22 @@
-//! A table of at most 128 rows, each a name of at most 255 bytes, a number and a mode, in ascending order of the bytes of their names.
+//! A table of rows, each a name, a number and a mode, in ascending order of the bytes of their names.
 ghost use Rattle.std.specs.Prelude.{◌≡◌, ◌<◌, ◌≤◌, ◌↔◌, [], length, map, IsTrue, remove, slice_get};
 ghost use Rattle.std.specs.Option.{option_map};
 ghost use Rattle.std.specs.Slice.Iter.{iter_rest};
-ghost use Rattle.claims.specs.Entries.{place_of, put, slot};
+ghost use Rattle.register_model.specs.Calls.{first_meeting};
+ghost use Rattle.register_model.specs.Entries.{place_of, put, slot};
+ghost use Rattle.register_model.specs.declared.TheConstants.{CAPACITY};
 ghost use Rattle.register.specs.Entries.{renamed};
 
 use arrayvec::ArrayVec;
+use filesystems::FileSystem;
 use protections::Mode;
+use register_model::{CAPACITY, LONGEST_NAME};
 use std::marker::Model;
 use std::slice;
+use tag::components::Components;
 
-mod met;
-
-/// How many rows there may be.
-pub(crate) const CAPACITY: usize = 128;
-
-/// The most bytes that a kept name has.
-pub(crate) const LONGEST: usize = 255;
-
-/// A name of at most 255 bytes.
-pub(crate) type Name = ArrayVec<u8, LONGEST>;
+/// A name that is not too long.
+pub(crate) type Name = ArrayVec<u8, LONGEST_NAME>;
 
 /// A name with its number and mode.
 #[derive(Default, Drop)]
@@ -29,7 +26,7 @@ pub struct Row {
     pub(crate) mode: Option<Mode>,
 }
 
-/// At most 128 rows, in places from 0. Callers see their entries.
+/// At most `CAPACITY` rows, in places from 0. Callers see their entries.
 #[derive(Drop)]
 pub struct Table {
     rows: ArrayVec<Row, CAPACITY>,
@@ -37,7 +34,7 @@ pub struct Table {
 
 impl Model for Table {
     ghost use Rattle.std.specs.Prelude.{map};
-    ghost use Rattle.claims.specs.Calls.{Kept};
+    ghost use Rattle.register_model.specs.Calls.{Kept};
     ghost use Rattle.register.specs.Rows.{entry_of};
     ghost use Rattle.register.specs.Entries.{InOrder};
 
@@ -69,7 +66,7 @@ impl Table {
 
     /// Whether there is no room for another row.
     pub(crate) fn is_full(&self) -> bool
-        ensures { IsTrue result ↔ (128 ≤ length self.now) }
+        ensures { IsTrue result ↔ (CAPACITY ≤ length self.now) }
     {
         self.rows.is_full()
     }
@@ -107,7 +104,7 @@ impl Table {
 
     /// Puts a row in at the place of its name, which is the answer.
     pub(crate) fn put(&mut self, row: Row) -> usize
-        requires { length self.old < 128 }
+        requires { length self.old < CAPACITY }
         ensures place { result ≡ slot row.name.items self.old }
         ensures entries { self.new ≡ put (entry_of row) self.old }
     {
@@ -128,7 +125,8 @@ impl Table {
     pub(crate) fn rename(&mut self, from: usize, name: Name, mode: Option<Mode>) -> usize
         requires { from < length self.old }
         ensures place { result ≡ slot name.items (remove self.old from) }
-        ensures entries { self.new ≡ put (renamed self.old from name.items mode) (remove self.old from) }
+        ensures entries { self.new
+            ≡ put (renamed self.old from name.items mode) (remove self.old from) }
     {
         // The row is lent to be changed: a fixed form, docs/DECISIONS.md.
         let row = &mut self.rows[from];
@@ -136,5 +134,38 @@ impl Table {
         row.mode = mode;
         let row = self.rows.remove(from);
         self.put(row)
+    }
+
+    /// The place of the first kept name that meets the new one; the name `aside` does not count.
+    pub(crate) fn first_meeting<F: FileSystem>(
+        &self,
+        files: &F,
+        name: &[u8],
+        aside: Option<&[u8]>,
+    ) -> Option<usize>
+        ensures { result
+            ≡ first_meeting (F.FileSystem.together files.now) (option_map (λ x. x.now) aside.entry)
+            name.now self.now }
+    {
+        // A fixed form, docs/DECISIONS.md: a search in nested loops that are left by label. So the loop over the components, which is
+        // that of `meetings::meets`, stands here again.
+        'search: {
+            'rows: for (place, row) in self.rows.iter().enumerate() {
+                let old = row.name.as_slice();
+                if aside == Some(old) {
+                    continue 'rows;
+                }
+                for (x, y) in Components::of(old).zip(Components::of(name)) {
+                    if x != y {
+                        if files.lie_together(x, y) {
+                            break 'search Some(place);
+                        }
+                        continue 'rows;
+                    }
+                }
+                break 'search Some(place);
+            }
+            None
+        }
     }
 }

@@ -1,5 +1,5 @@
 //! Names that file systems confuse or refuse, and the limits of a declared bottom.
-use filesystems::{DeclareError, DeclaredBottom, FileSystem, all_protections, mac_and_windows};
+use filesystems::{DeclaredBottom, FileSystem, all_protections, hfs_over_ntfs, windows_pile};
 use protections::{Mode, Protection};
 
 // The number of the verdict, if there is one.
@@ -22,8 +22,8 @@ fn confuses<F: FileSystem>(files: &F, pairs: &[Pair]) -> bool {
 // A component and its mode, and the number by which it is refused.
 type Case = (&'static [u8], Option<Mode>, Option<u8>);
 
-// Whether the file system judges these so.
-fn judges<F: FileSystem>(files: &F, cases: &[Case]) -> bool {
+// Whether the file system gives these so.
+fn gives<F: FileSystem>(files: &F, cases: &[Case]) -> bool {
     cases.iter().all(|(component, mode, refused)| number(files, *component, *mode) == *refused)
 }
 
@@ -31,7 +31,7 @@ fn judges<F: FileSystem>(files: &F, cases: &[Case]) -> bool {
 fn plain_pairs(rt: HostRuntime) {
     let mut bottom = DeclaredBottom::new();
     assert!(rt; !bottom.lie_together(b"lib", b"library"));
-    assert_eq!(rt; bottom.declare(b"lib", b"library"), Ok(()));
+    assert!(rt; bottom.declare(b"lib", b"library").is_ok());
     let pairs: [Pair; 4] = [
         (b"lib", b"library", true),
         (b"library", b"lib", true),
@@ -46,24 +46,26 @@ fn plain_pairs(rt: HostRuntime) {
 fn limits(rt: HostRuntime) {
     let long = b"123456789012345678901234567890123";
     let mut bottom = DeclaredBottom::new();
-    assert_eq!(rt; bottom.declare(&long[1..], b"x"), Ok(()));
+    assert!(rt; bottom.declare(&long[1..], b"x").is_ok());
     for _ in 0..15 {
-        assert_eq!(rt; bottom.declare(b"a", b"b"), Ok(()));
+        assert!(rt; bottom.declare(b"a", b"b").is_ok());
     }
-    assert_eq!(rt; bottom.declare(b"a", b"b"), Err(DeclareError::TooManyPairs));
-    assert_eq!(rt;
-        bottom.declare(b"a", long),
-        Err(DeclareError::ComponentTooLong)
+    assert!(rt;
+        bottom
+            .declare(b"a", b"b")
+            .is_err_and(|error| error.number() == 44)
     );
     assert!(rt;
-        DeclareError::TooManyPairs.number() == 44 && DeclareError::ComponentTooLong.number() == 33
+        bottom
+            .declare(b"a", long)
+            .is_err_and(|error| error.number() == 33)
     );
     assert!(rt; !bottom.lie_together(b"a", long) && bottom.lie_together(b"x", &long[1..]));
 }
 
 #[test]
-fn mac(rt: HostRuntime) {
-    let pile = mac_and_windows();
+fn hfs_and_ntfs(rt: HostRuntime) {
+    let pile = hfs_over_ntfs();
     let pairs: [Pair; 3] = [
         (b"Group", b"group", true),
         (b"Group. ", b"group:stream", true),
@@ -74,13 +76,28 @@ fn mac(rt: HostRuntime) {
         (b".gitmodules", LINK, Some(27)),
         (b"con", None, None),
     ];
-    assert!(rt; confuses(&pile, &pairs) && judges(&pile, &cases));
+    assert!(rt; confuses(&pile, &pairs) && gives(&pile, &cases));
+}
+
+#[test]
+fn windows(rt: HostRuntime) {
+    let pile = windows_pile();
+    let pairs: [Pair; 2] = [
+        (b"Group. ", b"group:stream", true),
+        (b"con", b"con.txt", false),
+    ];
+    let cases: [Case; 3] = [
+        (b"a\\b", None, Some(22)),
+        (b"con", None, Some(24)),
+        (b"git~1", None, Some(26)),
+    ];
+    assert!(rt; confuses(&pile, &pairs) && gives(&pile, &cases));
 }
 
 #[test]
 fn full(rt: HostRuntime) {
     let mut bottom = DeclaredBottom::new();
-    assert_eq!(rt; bottom.declare(b"lib", b"library"), Ok(()));
+    assert!(rt; bottom.declare(b"lib", b"library").is_ok());
     let pile = all_protections(bottom);
     let pairs: [Pair; 3] = [
         (b"library", b"lib", true),
@@ -88,5 +105,5 @@ fn full(rt: HostRuntime) {
         (b"LIB", b"library", false),
     ];
     let cases: [Case; 2] = [(b"con\\", None, Some(22)), (b"con", None, Some(24))];
-    assert!(rt; confuses(&pile, &pairs) && judges(&pile, &cases));
+    assert!(rt; confuses(&pile, &pairs) && gives(&pile, &cases));
 }

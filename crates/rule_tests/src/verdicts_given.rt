@@ -3,7 +3,7 @@ use crate::cases::{Case, LINK};
 use protections::{Hfs, Ntfs, Plain, Protection, WindowsDevices, WindowsNames, same_key};
 
 // Whether the protection's verdicts are those of the cases.
-fn judges<P: Protection>(protection: &P, cases: &[Case]) -> bool {
+fn gives<P: Protection>(protection: &P, cases: &[Case]) -> bool {
     cases.iter().all(|case| {
         let verdict = protection.verdict(case.input, case.mode);
         verdict.map(|verdict| verdict.number()) == case.number
@@ -18,7 +18,7 @@ fn plain(rt: HostRuntime) {
         Case::allowed(b".GitModules", None),
         Case::allowed(b".gitignore", LINK),
     ];
-    assert!(rt; judges(&Plain, &cases));
+    assert!(rt; gives(&Plain, &cases));
 }
 
 #[test]
@@ -28,7 +28,7 @@ fn hfs(rt: HostRuntime) {
         Case::refused(b".git\xEF\xBB\xBFModules", LINK, 27),
         Case::allowed(b".g\xE2\x80it", None),
     ];
-    assert!(rt; judges(&Hfs, &cases));
+    assert!(rt; gives(&Hfs, &cases));
     assert!(rt; same_key(&Hfs, b"Group", b"gro\xE2\x80\xAEup"));
 }
 
@@ -45,7 +45,7 @@ fn ntfs(rt: HostRuntime) {
         Case::allowed(b"~0000000", LINK),
         Case::allowed(b"gi7eb~1", LINK),
     ];
-    assert!(rt; judges(&Ntfs, &cases));
+    assert!(rt; gives(&Ntfs, &cases));
 }
 
 #[test]
@@ -62,6 +62,6 @@ fn windows(rt: HostRuntime) {
         Case::refused(b"a\"b", None, 25),
         Case::refused(b"a.", None, 25),
     ];
-    assert!(rt; judges(&WindowsNames, &names));
-    assert!(rt; judges(&WindowsDevices, &devices));
+    assert!(rt; gives(&WindowsNames, &names));
+    assert!(rt; gives(&WindowsDevices, &devices));
 }

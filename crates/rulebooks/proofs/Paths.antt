@@ -2,7 +2,7 @@
 use Rattle.std.proofs.Common.{◌≡◌, ℕ, ◌+◌, ◌≤◌, List, [], ◌∷◌, length, ⊎_elim, arith}
 use Rattle.std.proofs.lemmas.Bool.{cases_eq, eq-eqb, ne_eqb}
 use Rattle.tag.specs.Components.{components, onto}
-use Rattle.rulebooks.specs.Rulings.Ruling.{allowed, refused}
+use Rattle.tag.specs.Answers.Answer.{allowed, refused}
 use Rattle.rulebooks.specs.Kinds.{component_ruling, leftmost}
 
 -- A byte in front of the first component adds no component to some.

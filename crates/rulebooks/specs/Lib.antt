@@ -4,4 +4,4 @@ pub mod Kinds
 pub mod Paths
 pub mod Refusals
 -- Lemmas that the laws in src/ cite: they are proved, and nothing in them has to be believed.
-pub mod Filled
+pub mod LawLemmas

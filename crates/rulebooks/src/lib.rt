@@ -1,15 +1,15 @@
 //! Rulebooks: which byte strings are names, by kind, and which text a mending rulebook makes of any bytes.
 #![tactic(auto)]
 
-ghost use Rattle.std.specs.Prelude.{◌≡◌, ℕ, ◌≤◌, max, List, [], length, take, IfOk, IfErr, OnOk, ◌≢◌};
-ghost use Rattle.tag.specs.Components.{Among, components};
+ghost use Rattle.std.specs.Prelude.{◌≡◌, ℕ, ◌≤◌, max, List, [], length, take, IfOk, IfErr, OnOk, ◌≢◌, Contains};
+ghost use Rattle.tag.specs.Answers.{Answer};
+ghost use Rattle.tag.specs.Answers.Answer.{allowed, refused};
+ghost use Rattle.tag.specs.Components.{components};
 ghost use Rattle.tag.specs.Errors as tag_errors;
-ghost use Rattle.mending.specs.Errors.{outcome_of};
-ghost use Rattle.mending.specs.Mender.{buffer_after_with, outcome_with};
+ghost use Rattle.mending.specs.Mender.{buffer_after, length_or_error};
 ghost use Rattle.reference.specs.Errors as reference_errors;
 ghost use Rattle.rulebooks.specs.Refusals.{fault_ruling, ruling_in, ruling_of};
-ghost use Rattle.rulebooks.specs.Rulings.{Ruling, ruling};
-ghost use Rattle.rulebooks.specs.Rulings.Ruling.{allowed};
+ghost use Rattle.rulebooks.specs.Rulings.{IsValueFor, ruling};
 
 mod manual;
 pub mod names;
@@ -22,7 +22,7 @@ pub use manual::{ManualRulebook, ask_by_manual};
 #[derive(Clone, Copy, Debug, PartialEq, Eq)]
 pub struct Refusal {
     pub number: u8,
-    /// The invalid byte for number 1, the index of the component for 21 and 28, and else 0.
+    /// 0, unless the number is 1, 21 or 28: of the kinds here the invalid byte, or the index of the component.
     pub value: usize,
 }
 
@@ -34,13 +34,18 @@ pub trait Rulebook {
     // The same number in contracts; the check proves that the two are equal.
     ghost KIND: { ℕ };
 
-    ghost meaning: { List ℕ → Ruling };
+    ghost meaning: { List ℕ → Answer ℕ };
 
     /// Whether `name` is allowed, and else the refusal.
     fn check(&self, name: &[u8]) -> Result<(), Refusal>
         ensures { ruling_of result ≡ meaning name.now };
 
-    ghost filled: { (s c : List ℕ) → meaning s ≡ allowed → Among c (components s) → c ≢ [] };
+    // An allowed name has no empty component.
+    ghost no_empty_component: { (s c : List ℕ) → meaning s ≡ allowed
+        → Contains (components s) c → c ≢ [] };
+
+    // A refusal has a value only where its number is 1, 21 or 28.
+    ghost value_fits: { (s : List ℕ) (n v : ℕ) → meaning s ≡ refused n v → IsValueFor n v };
 }
 
 /// A rulebook that makes an allowed name of any bytes.
@@ -50,8 +55,8 @@ pub trait MendingRulebook: Rulebook {
     // The text and the buffer stand side by side in each call that mends, as in the ported crate's: they are no one value.
     /// Writes the mended text of `text` to the front of the buffer, and answers its length.
     fn mend(&self, text: &[u8], out: &mut [u8]) -> Result<usize, mending::Error>
-        ensures answer { outcome_of result ≡ outcome_with (mended text.now) text.now (length out.old) }
-        ensures buffer { out.new ≡ buffer_after_with (mended text.now) text.now out.old };
+        ensures answer { result ≡ length_or_error (mended text.now) text.now (length out.old) }
+        ensures buffer { out.new ≡ buffer_after (mended text.now) text.now out.old };
 
     ghost always_allowed: { (s : List ℕ) → Self.Rulebook.meaning (mended s) ≡ allowed };
 
@@ -97,7 +102,9 @@ pub struct RulebookFault {
 pub fn ask<R: Rulebook>(rules: &R, name: &[u8]) -> Result<(), RulebookFault>
     ensures answer { fault_ruling result ≡ R.Rulebook.meaning name.now }
     ensures kind { IfErr result (λ f. f.kind ≡ R.Rulebook.KIND) }
-    ensures filled { OnOk result ((c : List ℕ) → Among c (components name.now) → c ≢ []) }
+    ensures no_empty_component { OnOk result
+        ((c : List ℕ) → Contains (components name.now) c → c ≢ []) }
+    ensures value_fits { IfErr result (λ f. IsValueFor f.refusal.number f.refusal.value) }
 {
     rules.check(name).map_err(|refusal| RulebookFault {
         kind: R::KIND,
@@ -111,12 +118,14 @@ pub fn mend_into<R: MendingRulebook>(
     text: &[u8],
     out: &mut [u8],
 ) -> Result<usize, mending::Error>
-    ensures answer { outcome_of result ≡ outcome_with (R.MendingRulebook.mended text.now) text.now (length out.old) }
-    ensures buffer { out.new ≡ buffer_after_with (R.MendingRulebook.mended text.now) text.now out.old }
+    ensures answer { result
+        ≡ length_or_error (R.MendingRulebook.mended text.now) text.now (length out.old) }
+    ensures buffer { out.new ≡ buffer_after (R.MendingRulebook.mended text.now) text.now out.old }
     ensures text { IfOk result (λ n. take n out.new ≡ R.MendingRulebook.mended text.now) }
     ensures always_allowed { IfOk result (λ n. R.Rulebook.meaning (take n out.new) ≡ allowed) }
     ensures no_longer { IfOk result (λ n. n ≤ max 1 (length text.now)) }
-    ensures allowed_stays { R.Rulebook.meaning text.now ≡ allowed → IfOk result (λ n. take n out.new ≡ text.now) }
+    ensures allowed_stays { R.Rulebook.meaning text.now ≡ allowed
+        → IfOk result (λ n. take n out.new ≡ text.now) }
 {
     rules.mend(text, out)
 }

@@ -1,10 +1,10 @@
 //! The rulebook of tree paths, kind 5.
-ghost use Rattle.std.specs.Prelude.{◌≡◌, IfErr};
+ghost use Rattle.std.specs.Prelude.{◌≡◌, ℕ, List, IfErr};
 ghost use Rattle.tag.specs.Components.{components};
 ghost use Rattle.rulebooks.specs.Kinds.{component_ruling, tree_paths};
 ghost use Rattle.rulebooks.specs.Paths.{PathRuled};
 ghost use Rattle.rulebooks.specs.Refusals.{fault_ruling, ruling_of};
-ghost use Rattle.rulebooks.specs.Filled.{leftmost_filled};
+ghost use Rattle.rulebooks.specs.LawLemmas.{leftmost_no_empty, leftmost_value};
 
 use super::{Refusal, Rulebook, RulebookFault, ask};
 use tag::components::Components;
@@ -47,7 +47,9 @@ impl Rulebook for TreePaths {
 
     ghost meaning = { tree_paths };
 
-    ghost filled = { λ s c h. leftmost_filled 0 (components s) h c };
+    ghost no_empty_component = { λ s c h. leftmost_no_empty 0 (components s) h c };
+
+    ghost value_fits = { λ s. leftmost_value 0 (components s) };
 
     fn check(&self, name: &[u8]) -> Result<(), Refusal> {
         check_components(name)
@@ -59,6 +61,8 @@ impl Rulebook for TreePaths {
 pub fn tree_path(path: &[u8]) -> Result<(), RulebookFault>
     ensures answer { fault_ruling result ≡ tree_paths path.now }
     ensures kind { IfErr result (λ f. f.kind ≡ 5) }
+    ensures meaning { (s : List ℕ) → ⟦<TreePaths as Rulebook>⟧.meaning s ≡ tree_paths s }
+    ensures number { ⟦<TreePaths as Rulebook>⟧.KIND ≡ 5 }
     ensures leftmost { PathRuled (components path.now) (fault_ruling result) }
 {
     // It stays beside `ask`, since the clause `leftmost` is of tree paths alone.

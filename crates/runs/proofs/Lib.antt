@@ -1,3 +1,2 @@
 -- The lemmas on lists of calls.
-pub mod Alike
 pub mod Recording

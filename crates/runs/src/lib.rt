@@ -1,16 +1,16 @@
 //! Lists of calls on a register, and what holds after any of them.
 #![tactic(auto)]
 
-ghost use Rattle.std.specs.Prelude.{◌≡◌, min, Bool, true, false, IsTrue, List, [], map, length, take, drop};
+ghost use Rattle.std.specs.Prelude.{◌≡◌, ℕ, min, Bool, true, false, IsTrue, List, [], map, length, take, drop, Option};
+ghost use Rattle.std.specs.Borrow.{Bor};
 ghost use Rattle.std.proofs.lemmas.Bool.{false≢true};
-ghost use Rattle.claims.specs.Calls.{Call as LaidDown, Meaning, answer as answer_laid_down, entries_after};
-ghost use Rattle.claims.specs.Claim.{Claim, Done, Lawful, Mending, OffersClaim, Ran};
-ghost use Rattle.claims.specs.Histories.{answers as answers_laid_down, entries_left};
+ghost use Rattle.register_model.specs.Calls.{Call as CallMade, answer, no_entries, state_after};
+ghost use Rattle.register_model.specs.Calls.Call.{enter as an_enter, offer as an_offer, remove as a_remove, rename as a_rename};
+ghost use Rattle.register_model.specs.Claim.{Claim, Done, Holds, MendingLaws, OffersClaim, OffersExact, Ran};
+ghost use Rattle.register_model.specs.Histories.{answers as answers_given, state_left};
 ghost use Rattle.register.specs.Faults.{outcome_of};
-ghost use Rattle.register.specs.Meanings.{meaning_in, mending_meaning_in};
-ghost use Rattle.register.specs.Registers.{SameRules, entries_in};
-ghost use Rattle.register.specs.declared.Register.{Register};
-ghost use Rattle.runs.specs.Laws.{laws_kept};
+ghost use Rattle.register.specs.Meanings.{unmended};
+ghost use Rattle.register.specs.Registers.{IsMade, SameRules, entries_in, meaning_in, state_in};
 ghost use Rattle.runs.specs.Listed.{call_of, change_of, first_done};
 
 use filesystems::FileSystem;
@@ -47,94 +47,124 @@ pub enum Call<'a> {
 /// What a call answers: the place of the name, or why it is refused.
 pub type Answer = Result<usize, Fault>;
 
-/// A call on a register with rules `R` and files `F`, with its arguments, which can be made.
-pub trait Request<R, F>: Copy {
+/// A value that is a call on registers with rules `R`, over any file system.
+pub trait Described<R: Rulebook>: Copy {
     // Which call it is.
-    ghost laid_down: { Self → LaidDown };
-
-    // What the rulebook and the file system of a register mean to it.
-    ghost meaning: { Register R F → Meaning };
+    ghost call: { Self → CallMade };
 
     // Whether such a call may be an offer.
     ghost may_offer: { Bool };
 
-    /// Makes the call.
-    fn make(self, register: &mut Register<R, F>) -> Answer
-        ensures answer { outcome_of result ≡ answer_laid_down (meaning register.old) (entries_in register.old) (laid_down self) }
-        ensures entries { entries_in register.new ≡ entries_after (meaning register.old) (entries_in register.old) (laid_down self) }
-        ensures same_rules { SameRules register.old register.new };
+    // What the rulebook mends a text to, which matters where such a call may be an offer.
+    ghost mended: { List ℕ → List ℕ };
 
-    // First law: registers with the same rulebook and file system mean the same.
-    ghost same_meaning: { (r s : Register R F) → SameRules r s → meaning s ≡ meaning r };
-
-    // Second law: the rulebook and the file system keep their laws.
-    ghost lawful: { (r : Register R F) → Lawful (meaning r) };
-
-    // Third law: where such a call may be an offer, the rulebook keeps the laws of one that mends.
-    ghost mending: { (r : Register R F) → IsTrue may_offer → Mending (meaning r) };
+    // There the rulebook keeps the laws of one that mends.
+    ghost mends: { IsTrue may_offer → MendingLaws R.Rulebook.meaning mended };
 }
 
-impl<'a, R: Rulebook, F: FileSystem> Request<R, F> for Change<'a> {
-    ghost laid_down = { change_of };
+/// A call on a register with rules `R` and files `F`, with its arguments, which can be made.
+pub trait Request<R: Rulebook, F: FileSystem>: Described<R> {
+    /// Makes the call.
+    fn make(self, register: &mut Register<R, F>) -> Answer
+        ensures { IsMade Self.Described.mended register.old register.new (Self.Described.call self)
+            result };
+}
 
-    ghost meaning = { λ r. meaning_in R.Rulebook F.FileSystem r };
+impl<'a, R: Rulebook> Described<R> for Change<'a> {
+    ghost call = { change_of };
 
     ghost may_offer = { false };
 
-    fn make(self, register: &mut Register<R, F>) -> Answer {
+    ghost mended = { unmended };
+
+    ghost mends = { λ offers. absurd (false≢true offers) };
+}
+
+impl<'a, R: Rulebook, F: FileSystem> Request<R, F> for Change<'a> {
+    // What each case is and does.
+    fn make(self, register: &mut Register<R, F>) -> Answer
+        ensures made { IsMade unmended register.old register.new (change_of self.entry) result }
+        ensures made_alike { (mended : List ℕ → List ℕ)
+            → IsMade mended register.old register.new (change_of self.entry) result }
+        ensures enter { (name : Bor (List ℕ)) (number : ℕ) (mode : Option Mode)
+            → self.entry ≡ Change.Enter name number mode
+            → IsMade unmended register.old register.new (an_enter name.now number mode) result }
+        ensures rename { (old new : Bor (List ℕ)) (mode : Option Mode)
+            → self.entry ≡ Change.Rename old new mode
+            → IsMade unmended register.old register.new (a_rename old.now new.now mode) result }
+        ensures remove { (name : Bor (List ℕ)) → self.entry ≡ Change.Remove name
+            → IsMade unmended register.old register.new (a_remove name.now) result }
+        ensures call { (c : Change) → ⟦<Change<'a> as Described<R>>⟧.call c ≡ change_of c }
+    {
         match self {
             Change::Enter { name, number, mode } => register.enter(name, number, mode),
             Change::Rename { old, new, mode } => register.rename(old, new, mode),
             Change::Remove { name } => register.remove(name),
         }
     }
-
-    // One word, here and in the other impl: a register's meaning is read off its rules and files alone.
-    ghost same_meaning = { λ r s same. Prim.cc };
-
-    ghost lawful = { λ r. laws_kept R.filled (F.symmetric r.files) (F.keyed r.files) };
-
-    ghost mending = { λ r offers. absurd (false≢true offers) };
 }
 
-impl<'a, R: MendingRulebook, F: FileSystem> Request<R, F> for Call<'a> {
-    ghost laid_down = { call_of };
-
-    ghost meaning = { λ r. mending_meaning_in R.Rulebook R.MendingRulebook.mended F.FileSystem r };
+impl<'a, R: MendingRulebook> Described<R> for Call<'a> {
+    ghost call = { call_of };
 
     ghost may_offer = { true };
 
-    fn make(self, register: &mut Register<R, F>) -> Answer {
+    ghost mended = { R.MendingRulebook.mended };
+
+    ghost mends = { λ offers. record {
+      always_allowed = R.always_allowed;
+      no_longer = R.no_longer;
+      allowed_stays = R.allowed_stays;
+    } };
+}
+
+impl<'a, R: MendingRulebook, F: FileSystem> Request<R, F> for Call<'a> {
+    // What each case is and does.
+    fn make(self, register: &mut Register<R, F>) -> Answer
+        ensures made { IsMade R.MendingRulebook.mended register.old register.new
+            (call_of self.entry) result }
+        ensures change { (change : Change) → self.entry ≡ Call.Change change
+            → IsMade R.MendingRulebook.mended register.old register.new (change_of change) result }
+        ensures offer { (text : Bor (List ℕ)) (number : ℕ) → self.entry ≡ Call.Offer text number
+            → IsMade R.MendingRulebook.mended register.old register.new (an_offer text.now number)
+            result }
+        ensures call { (c : Call) → ⟦<Call<'a> as Described<R>>⟧.call c ≡ call_of c }
+        ensures mended { (s : List ℕ)
+            → ⟦<Call<'a> as Described<R>>⟧.mended s ≡ R.MendingRulebook.mended s }
+        ensures may_offer { IsTrue ⟦<Call<'a> as Described<R>>⟧.may_offer }
+    {
         match self {
             Call::Change(change) => change.make(register),
             Call::Offer { text, number } => register.offer(text, number),
         }
     }
-
-    ghost same_meaning = { λ r s same. Prim.cc };
-
-    ghost lawful = { λ r. laws_kept R.filled (F.symmetric r.files) (F.keyed r.files) };
-
-    ghost mending = { λ r offers. record {
-      mended_allowed = R.always_allowed;
-      mended_short = R.no_longer;
-      allowed_stays = R.allowed_stays;
-    } };
 }
 
 /// Makes the calls of a list one by one, as many as there is room for answers, and answers how many these are. A list of
 /// `Change` is for every register, and one of `Call`, which may hold offers, for a register whose rulebook mends.
-pub fn perform<R, F, Q: Request<R, F>>(
+pub fn perform<R: Rulebook, F: FileSystem, Q: Request<R, F>>(
     register: &mut Register<R, F>,
     calls: &[Q],
     answers: &mut [Answer],
 ) -> usize
     ensures count { result ≡ min (length calls.now) (length answers.old) }
-    ensures answered { map outcome_of (take result answers.new) ≡ answers_laid_down (Q.meaning register.old) (entries_in register.old) (map Q.laid_down (take result calls.now)) }
-    ensures entries { entries_in register.new ≡ entries_left (Q.meaning register.old) (entries_in register.old) (map Q.laid_down (take result calls.now)) }
-    ensures ran { Ran (Q.meaning register.old) (entries_in register.old) (first_done Q.laid_down calls.now answers.new result) (entries_in register.new) }
-    ensures claim { entries_in register.old ≡ [] → Claim (Q.meaning register.old) (first_done Q.laid_down calls.now answers.new result) (entries_in register.new) }
-    ensures offers { IsTrue Q.may_offer → OffersClaim (Q.meaning register.old) (first_done Q.laid_down calls.now answers.new result) }
+    ensures answered { map outcome_of (take result answers.new)
+        ≡ answers_given (meaning_in Q.Described.mended register.old) (state_in register.old)
+        (map Q.Described.call (take result calls.now)) }
+    ensures state { state_in register.new
+        ≡ state_left (meaning_in Q.Described.mended register.old) (state_in register.old)
+        (map Q.Described.call (take result calls.now)) }
+    ensures ran { Ran (meaning_in Q.Described.mended register.old) (state_in register.old)
+        (first_done Q.Described.call calls.now answers.new result) (state_in register.new) }
+    ensures claim { state_in register.old ≡ no_entries
+        → Claim (meaning_in Q.Described.mended register.old)
+        (first_done Q.Described.call calls.now answers.new result) (state_in register.new) }
+    ensures offers { IsTrue Q.Described.may_offer
+        → OffersClaim (meaning_in Q.Described.mended register.old)
+        (first_done Q.Described.call calls.now answers.new result) }
+    ensures offers_exact { IsTrue Q.Described.may_offer → state_in register.old ≡ no_entries
+        → OffersExact (meaning_in Q.Described.mended register.old)
+        (first_done Q.Described.call calls.now answers.new result) }
     ensures rest { drop result answers.new ≡ drop result answers.old }
     ensures same_rules { SameRules register.old register.new }
 {
@@ -146,12 +176,22 @@ pub fn perform<R, F, Q: Request<R, F>>(
     count
 }
 
-/// How many entries a register keeps. Whatever calls took it here from no entry, made one by one, the claim holds of them. The
-/// type `Q` says which calls these are: `Change` for those that every register takes, and `Call` where the rulebook mends.
-pub fn audit<R: Rulebook, F: FileSystem, Q: Request<R, F>>(register: &Register<R, F>) -> usize
+/// How many entries a register keeps. What holds of every register holds of it, and whatever calls took it here from no entry,
+/// made one by one, the claim holds of them: of offers with the text that the rulebook mends to.
+pub fn audit<R: Rulebook, F: FileSystem>(register: &Register<R, F>) -> usize
     ensures count { result ≡ length (entries_in register.now) }
-    ensures claim { (ds : List Done) → Ran (Q.meaning register.now) [] ds (entries_in register.now) → Claim (Q.meaning register.now) ds (entries_in register.now) }
-    ensures offers { IsTrue Q.may_offer → (ds : List Done) → Ran (Q.meaning register.now) [] ds (entries_in register.now) → OffersClaim (Q.meaning register.now) ds }
+    ensures holds { Holds (meaning_in unmended register.now) (state_in register.now) }
+    ensures claim { (mended : List ℕ → List ℕ) (ds : List Done)
+        → Ran (meaning_in mended register.now) no_entries ds (state_in register.now)
+        → Claim (meaning_in mended register.now) ds (state_in register.now) }
+    ensures offers { (mended : List ℕ → List ℕ) → MendingLaws R.Rulebook.meaning mended
+        → (ds : List Done)
+        → Ran (meaning_in mended register.now) no_entries ds (state_in register.now)
+        → OffersClaim (meaning_in mended register.now) ds }
+    ensures offers_exact { (mended : List ℕ → List ℕ) → MendingLaws R.Rulebook.meaning mended
+        → (ds : List Done)
+        → Ran (meaning_in mended register.now) no_entries ds (state_in register.now)
+        → OffersExact (meaning_in mended register.now) ds }
 {
     register.count()
 }

@@ -1,6 +1,6 @@
 -- Samples of the rules, each with what must come of it by the definitions.
 use Rattle.std.specs.Prelude.{◌≡◌, ℕ, Bool, true, false, List, [], ◌∷◌, Some, None, codes, Option}
-use Rattle.tag.specs.Answers.{Answer}
+use Rattle.tag.specs.Answers.{Answer, Value}
 use Rattle.tag.specs.Answers.Answer.{refused}
 use Rattle.tag.specs.Answers.Value.{nothing, byte, name}
 use Rattle.reference.specs.Names.{partial_name}
@@ -8,11 +8,11 @@ use Rattle.mending.specs.Mender.{mended}
 use Rattle.protections.specs.declared.rules.Mode.{Mode}
 use Rattle.protections.specs.declared.rules.Mode.TheVariants.{Symlink}
 use Rattle.path.specs.declared.Options.{Options}
-use Rattle.path.specs.Answer as components
 use Rattle.path.specs.Rule.{component_rule}
 use Rattle.meetings.specs.Meeting.{Meets}
-use Rattle.claims.specs.Calls.{renaming}
-use Rattle.claims.specs.Calls.Outcome.{accepted}
+use Rattle.register_model.specs.Entries.{new_entry}
+use Rattle.register_model.specs.Calls.{renaming}
+use Rattle.register_model.specs.Calls.Outcome.{accepted}
 use Rattle.runs.specs.Campus.{campus}
 
 -- As what a component is checked: with any mode, or as a symbolic link.
@@ -20,20 +20,26 @@ pub data Checked : Type 0 where
   anyhow : Checked
   as_link : Checked
 
--- The protections that have to be on.
-pub record Protected : Type 0 where
-  pub windows : Bool
-  pub hfs : Bool
-  pub ntfs : Bool
+-- How a protection has to be set.
+pub data Setting : Type 0 where
+  on : Setting
+  off : Setting
+  either : Setting
+
+-- How the protections of Windows names, HFS+ and NTFS have to be set.
+pub record Settings : Type 0 where
+  pub windows : Setting
+  pub hfs : Setting
+  pub ntfs : Setting
 
 -- A sample, with what must come of it.
 pub data Sample : Type 0 where
   -- a partial name, and its refusal
-  partial : List ℕ → Answer → Sample
+  partial : List ℕ → Answer Value → Sample
   -- a text, and what it is mended to
   text : List ℕ → List ℕ → Sample
-  -- a component, as what it is checked, the protections that have to be on, and the answer
-  component : List ℕ → Checked → Protected → components.Answer → Sample
+  -- a component, as what it is checked, how the protections have to be set, and the answer
+  component : List ℕ → Checked → Settings → Option ℕ → Sample
   -- two names that meet
   meeting : List ℕ → List ℕ → Sample
   -- a kept name, and a name that it may be given instead
@@ -44,26 +50,30 @@ abbrev pub Fits : Checked → Option Mode → Type 0
 Fits anyhow mode = Unit {0}
 Fits as_link mode = mode ≡ Some Symlink
 
--- A setting is on, if it has to be.
-abbrev pub On : Bool → Bool → Type 0
-On false setting = Unit {0}
-On true setting = setting ≡ true
+-- A protection that is on or not is as it has to be set.
+abbrev pub IsSet : Setting → Bool → Type 0
+IsSet on protects = protects ≡ true
+IsSet off protects = protects ≡ false
+IsSet either protects = Unit {0}
 
 -- What a sample says.
-abbrev pub Holds : Sample → Type 0
-Holds (partial s a) = partial_name s ≡ a
-Holds (text s t) = mended s ≡ t
--- whatever the settings are that need not be on
-Holds (component s checked on a) =
-    (mode : Option Mode) (o : Options) → Fits checked mode → On on.windows o.protect_windows → On on.hfs o.protect_hfs → On on.ntfs o.protect_ntfs
+abbrev pub IsSo : Sample → Type 0
+IsSo (partial s a) = partial_name s ≡ a
+IsSo (text s t) = mended s ≡ t
+-- with every mode that fits, and every setting of the protections that are `either`
+IsSo (component s checked set a) =
+    (mode : Option Mode) (o : Options) → Fits checked mode
+    → IsSet set.windows o.protect_windows → IsSet set.hfs o.protect_hfs
+    → IsSet set.ntfs o.protect_ntfs
     → component_rule s mode o ≡ a
 -- on every file system
-Holds (meeting x y) = (together : List ℕ → List ℕ → Bool) → Meets together x y
--- in a register of partial names on Macs and Windows that keeps the one name, whatever its number and mode
-Holds (rename old new) =
-    (n : ℕ) (mode : Option Mode) → renaming campus (record { name = old; number = n; mode = mode } ∷ []) old new None ≡ accepted 0
+IsSo (meeting x y) = (together : List ℕ → List ℕ → Bool) → Meets together x y
+-- in a register of partial names on HFS+ over NTFS that keeps the one name, whatever its number and mode
+IsSo (rename old new) =
+    (n : ℕ) (mode : Option Mode)
+    → renaming campus (new_entry old n mode ∷ []) old new None ≡ accepted 0
 
--- The samples. The bytes 226 130 58 are the start of a character of three bytes, cut short by a colon.
+-- The samples. The bytes 226 130 are the start of a character of three bytes, and no character begins with 240 128.
 abbrev pub samples : List Sample
 samples =
     partial (codes "/") (refused 10 nothing)
@@ -74,11 +84,18 @@ samples =
     ∷ text (codes "@.lock") (codes "-")
     ∷ text (codes "a..lock") (codes "a")
     ∷ text (codes ".lock") (codes "-lock")
-    ∷ component (codes "LPT0") anyhow (record { windows = true; hfs = false; ntfs = true }) (components.Answer.refused 24)
-    ∷ component (codes "COM0") anyhow (record { windows = true; hfs = false; ntfs = true }) (components.Answer.allowed (codes "COM0"))
-    ∷ component (226 ∷ 130 ∷ 58 ∷ []) anyhow (record { windows = true; hfs = false; ntfs = false }) (components.Answer.refused 23)
-    ∷ component (codes "~1000000") as_link (record { windows = false; hfs = false; ntfs = true }) (components.Answer.refused 27)
-    ∷ component (codes ".git:/x") anyhow (record { windows = false; hfs = false; ntfs = false }) (components.Answer.refused 22)
+    ∷ component (codes "LPT0") anyhow (record { windows = on; hfs = either; ntfs = on })
+    (Some 24)
+    ∷ component (codes "COM0") anyhow (record { windows = on; hfs = either; ntfs = on })
+    None
+    ∷ component (226 ∷ 130 ∷ codes ":") anyhow
+    (record { windows = on; hfs = either; ntfs = either }) (Some 23)
+    ∷ component (240 ∷ 128 ∷ codes ":") anyhow (record { windows = on; hfs = off; ntfs = off })
+    None
+    ∷ component (codes "~1000000") as_link (record { windows = either; hfs = either; ntfs = on })
+    (Some 27)
+    ∷ component (codes ".git:/x") anyhow (record { windows = either; hfs = either; ntfs = either })
+    (Some 22)
     ∷ meeting (codes "a") (codes "a/b")
     ∷ rename (codes "a") (codes "a/b")
     ∷ []

@@ -3,12 +3,12 @@
 
 ghost use Rattle.std.specs.Prelude.{◌≡◌, length};
 ghost use Rattle.std.specs.List.{AllByRecursion};
-ghost use Rattle.samples.specs.Samples.{Holds, samples as listed};
+ghost use Rattle.samples.specs.Samples.{IsSo, samples as listed};
 
 /// How many samples are listed. What each says holds.
 pub fn proved() -> usize
     ensures count { result ≡ length listed }
-    ensures each { AllByRecursion Holds listed }
+    ensures each { AllByRecursion IsSo listed }
 {
-    15
+    16
 }

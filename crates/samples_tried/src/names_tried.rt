@@ -1,13 +1,4 @@
-//! Samples of names, texts and components.
-use path::Options;
-
-// The Windows protection alone.
-const WINDOWS_ALONE: Options = Options {
-    protect_windows: true,
-    protect_hfs: false,
-    protect_ntfs: false,
-};
-
+//! Samples of names and texts.
 /// Writes the number by which a sample is refused, if it is.
 fn write_refusal(rt: &HostRuntime, what: &str, number: Option<u8>) -> anyhow::Result<()> {
     match number {
@@ -31,7 +22,5 @@ pub(crate) fn run(rt: &HostRuntime) -> anyhow::Result<()> {
         handle.len(),
         report.len()
     )?;
-    let answer = path::component(b"\xF0\x80:", None, WINDOWS_ALONE);
-    let refusal = answer.err().map(|error| error.number());
-    write_refusal(rt, "F0 80 3A as a component, Windows alone", refusal)
+    Ok(())
 }

@@ -1,5 +1,5 @@
 //! Samples of names entered into a register.
-use filesystems::{DeclaredBottom, mac_and_windows};
+use filesystems::{DeclaredBottom, hfs_over_ntfs};
 use register::Register;
 use register::faults::Fault;
 use rulebooks::names::PartialNames;
@@ -32,7 +32,7 @@ fn declared(rt: &HostRuntime) -> anyhow::Result<()> {
 
 /// The longest names.
 fn longest(rt: &HostRuntime) -> anyhow::Result<()> {
-    let mut register = Register::new(PartialNames, mac_and_windows());
+    let mut register = Register::new(PartialNames, hfs_over_ntfs());
     let name = [b'a'; 256];
     write_answer(
         rt,
@@ -48,7 +48,7 @@ fn longest(rt: &HostRuntime) -> anyhow::Result<()> {
 
 /// A full register, of the names from `aa` to `ex`.
 fn full(rt: &HostRuntime) -> anyhow::Result<()> {
-    let mut register = Register::new(PartialNames, mac_and_windows());
+    let mut register = Register::new(PartialNames, hfs_over_ntfs());
     for index in 0..128u8 {
         let name = [b'a' + index / 26, b'a' + index % 26];
         // A name that is not entered shows in the count.

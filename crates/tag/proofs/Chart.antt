@@ -1,7 +1,7 @@
 -- A chart of the bytes marks the ordinary ones: the test is computed at each of its entries, one after the other.
 use Rattle.std.proofs.Common.{◌≡◌, ℕ, zero, suc, ◌+◌, ◌<◌, Bool, true, false, not, ◌&&◌, eqb, List, [], ◌∷◌, length, get_or, sym, refl, ◌∙◌, subst, le_of_suc-le-suc, not-suc-le-zero, add-zero, add-suc, suc-add, zero-add}
 use Rattle.std.proofs.lemmas.Bool.{and_parts}
-use Rattle.tag.specs.Ordinary.{ordinary}
+use Rattle.tag.specs.Scanning.{ordinary}
 
 -- Whether two tests agree.
 abbrev same : Bool → Bool → Bool

@@ -6,6 +6,9 @@ pub mod Sound
 pub mod Soundness
 pub mod Members
 pub mod Parts
+pub mod OnlyComponents
 pub mod Locks
 pub mod Splitting
 pub mod Rules
+pub mod FirstRules
+pub mod TagRefusals

@@ -5,9 +5,8 @@ use Rattle.std.proofs.lemmas.List.{append_assoc, get_or-append-add, length-appen
 use Rattle.std.proofs.lemmas.Bool.{and_parts, leb-true, le-leb}
 use Rattle.std.proofs.lemmas.Bool.Decides.{nat_tests, same_from_decides, Decides-like}
 use Rattle.tag.specs.Bytes.{dot_lock, ends_in_lock}
-use Rattle.tag.specs.Components.{Among}
-use Rattle.tag.specs.Manual.{Ends}
-use Rattle.tag.proofs.Members.{among_at}
+use Rattle.tag.specs.Fronts.{Ends}
+use Rattle.tag.proofs.Members.{Among, among_at}
 
 -- The byte at k from the end does not depend on what stands far before it.
 back_get_d : (p c : List ℕ) (k : ℕ) → k ≤ length c → get_or (p ++ c) (length (p ++ c) - k) 0 ≡ get_or c (length c - k) 0

@@ -1,7 +1,11 @@
 -- What is among the elements of a list.
-use Rattle.std.proofs.Common.{◌≡◌, ℕ, zero, suc, ◌<◌, List, [], ◌∷◌, ◌++◌, length, sym, refl, subst, inl, inr, arith}
+use Rattle.std.proofs.Common.{◌≡◌, ℕ, zero, suc, ◌<◌, ◌⊎◌, List, [], ◌∷◌, ◌++◌, length, sym, refl, subst, inl, inr, arith}
 use Rattle.std.specs.List.{AllByRecursion, Contains, slice_index_or}
-use Rattle.tag.specs.Components.{Among}
+
+-- x is one of these.
+abbrev pub Among : {X : Type 0} → X → List X → Type 0
+Among x [] = ⊥
+Among x (y ∷ ys) = (x ≡ y) ⊎ Among x ys
 
 -- An element that is written out is among the list.
 pub among_at : {X : Type 0} (f : List X) (x : X) (r : List X) → Among x (f ++ x ∷ r)
@@ -20,7 +24,7 @@ module _ {X : Type 0} (P : X → Type 0) where
   all_from_each [] h = tt
   all_from_each (y ∷ xs) h = (h y (inl refl), all_from_each xs (λ x m. h x (inr m)))
 
--- The same by the index that an element has.
+-- The same by the index that an element has, which is the library's way.
 
 pub contains_among : {X : Type 0} (xs : List X) (x : X) → Among x xs → Contains xs x
 contains_among [] x m = absurd m

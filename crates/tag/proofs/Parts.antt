@@ -1,7 +1,10 @@
 -- The components of a name: joined by slashes they are the name, and none holds a slash.
 use Rattle.std.proofs.Common.{◌≡◌, ℕ, List, [], ◌∷◌, length, arith, sym, refl, ap, ◌∙◌, subst, inl, inr, ⊎_elim}
+use Rattle.std.proofs.lemmas.List.Elements.{All-from_recursion}
+use Rattle.std.specs.List.{Contains}
 use Rattle.std.proofs.lemmas.Bool.{cases_eq, eq-eqb, ne_eqb}
-use Rattle.tag.specs.Components.{components, joined, Among, Splits}
+use Rattle.tag.specs.Components.{components, joined, AreComponents}
+use Rattle.tag.proofs.Members.{Among, all_from_each, among_contains}
 
 -- The components of s are c and then those of cs, one byte at a time.
 pub data Parts : List ℕ → List ℕ → List (List ℕ) → Type 0 where
@@ -73,5 +76,11 @@ some_component : (s : List ℕ) → components s ≡ [] → ⊥
 some_component s e = let r = split s in let h = ap length (sym r.all ∙ e) in omega arith
 
 -- The components of s are what they are meant to be.
-pub components_split : (s : List ℕ) → Splits s (components s)
-components_split s = (some_component s, joined_components s, slash_free s)
+pub are_components : (s : List ℕ) → AreComponents s (components s)
+are_components s = record {
+  some = some_component s;
+  joins = joined_components s;
+  slash_free =
+      All-from_recursion (λ c. Contains c 47 → ⊥) (components s)
+      (all_from_each (λ c. Contains c 47 → ⊥) (components s) (λ c m h. slash_free s c m (among_contains c 47 h)));
+}

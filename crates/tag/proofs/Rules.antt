@@ -1,22 +1,25 @@
 -- A tag name is allowed exactly where it keeps the rules of the manual page.
-use Rattle.std.proofs.Common.{◌≡◌, ℕ, false, List, [], ◌∷◌, ◌++◌, is_ok, Ok, Err, Decides, Result, sym, refl, ap, ◌∙◌, subst, inl, inr, ⊎_elim, arith}
+use Rattle.std.proofs.Common.{◌≡◌, ℕ, ◌<◌, ◌⊎◌, false, List, [], ◌∷◌, ◌++◌, is_ok, Ok, Err, Decides, Result, sym, refl, ap, ◌∙◌, subst, inl, inr, ⊎_elim, arith}
+use Rattle.std.specs.Prelude.{All, Contains}
 use Rattle.std.specs.List.{AllByRecursion}
+use Rattle.std.proofs.lemmas.List.Elements.{All-contains, All-from_recursion, recursion_from_All}
 use Rattle.std.proofs.lemmas.List.Prefix.{end_from_reads}
 use Rattle.std.proofs.lemmas.List.{append-nil, append_assoc}
 use Rattle.std.proofs.lemmas.Bool.{false≢true, cases_Bool}
 use Rattle.std.proofs.lemmas.Bool.Decides.{nat_tests, not_from_Decides}
-use Rattle.tag.specs.Answers.{Value, first_of}
+use Rattle.tag.specs.Answers.{Value, first_refusal}
 use Rattle.tag.specs.Answers.Answer.{allowed, refused}
 use Rattle.tag.specs.Answers.Value.{nothing}
 use Rattle.tag.specs.Bytes.{invalid, last_byte, dot_lock, ends_in_lock}
-use Rattle.tag.specs.Components.{components, Among}
+use Rattle.tag.specs.Components.{components}
 use Rattle.tag.specs.Errors.{answer_of, refusal}
-use Rattle.tag.specs.Manual.{Begins, Ends, Lacks, Rules}
-use Rattle.tag.specs.Names.{pair, tag_name}
+use Rattle.tag.specs.Fronts.{Begins, Ends, Lacks}
+use Rattle.tag.specs.Manual.{Rules}
+use Rattle.tag.specs.Names.{fault_after, tag_name}
 use Rattle.tag.specs.declared.Error.{Error}
 use Rattle.tag.proofs.Firsts.{refusal_decides}
 use Rattle.tag.proofs.Locks.{lock_decides, lock_after_slash}
-use Rattle.tag.proofs.Members.{among_at, each_from_all, all_from_each}
+use Rattle.tag.proofs.Members.{Among, among_at, among_contains, contains_among, each_from_all, all_from_each}
 use Rattle.tag.proofs.Parts.{Parts, split}
 use Rattle.tag.proofs.Parts.Parts.{ends, slash, other}
 use Rattle.tag.proofs.Reading.{last_byte_push}
@@ -24,22 +27,22 @@ use Rattle.tag.proofs.Sound.{Follows, Unlocked, Sound}
 use Rattle.tag.proofs.Soundness.{sound_from_allowed, allowed_from_sound}
 
 -- Where the bytes follow each other, two neighbours do.
-follows_at : (a : ℕ) (f : List ℕ) (x y : ℕ) (r : List ℕ) → Follows a (f ++ x ∷ (y ∷ r)) → pair x y ≡ allowed
+follows_at : (a : ℕ) (f : List ℕ) (x y : ℕ) (r : List ℕ) → Follows a (f ++ x ∷ (y ∷ r)) → fault_after x y ≡ allowed
 follows_at a [] x y r h = h.1.0
 follows_at a (b ∷ f) x y r h = follows_at b f x y r h.1
 
 -- Where the bytes follow each other, each follows some byte.
-follows_some : (a b : ℕ) (s : List ℕ) → Follows a s → Among b s → (x : ℕ) × (pair x b ≡ allowed)
+follows_some : (a b : ℕ) (s : List ℕ) → Follows a s → Among b s → (x : ℕ) × (fault_after x b ≡ allowed)
 follows_some a b [] h m = absurd m
-follows_some a b (c ∷ s) h (inl e) = (a, ap (pair a) e ∙ h.0)
+follows_some a b (c ∷ s) h (inl e) = (a, ap (fault_after a) e ∙ h.0)
 follows_some a b (c ∷ s) h (inr m) = follows_some c b s h.1 m
 
 -- A byte that may follow some byte is neither invalid nor an asterisk.
-valid : (a b : ℕ) → pair a b ≡ allowed → (invalid b ≡ false) × (b ≡ 42 → ⊥)
+valid : (a b : ℕ) → fault_after a b ≡ allowed → (invalid b ≡ false) × (b ≡ 42 → ⊥)
 valid a b h = (grind (arith, nat_tests), λ e. grind (arith, nat_tests))
 
 -- Two bytes that do not follow each other stand nowhere side by side.
-lacks : (s : List ℕ) (x y : ℕ) → Follows 47 s → (pair x y ≡ allowed → ⊥) → Lacks (x ∷ (y ∷ [])) s
+lacks : (s : List ℕ) (x y : ℕ) → Follows 47 s → (fault_after x y ≡ allowed → ⊥) → Lacks (x ∷ (y ∷ [])) s
 lacks s x y h n front rest e = n (follows_at 47 front x y rest (subst (Follows 47) e h))
 
 -- A refusal does not allow.
@@ -47,7 +50,7 @@ never : (n : ℕ) (v : Value) → refused n v ≡ allowed → ⊥
 never n v e = let z : ◌≡◌ {A = ℕ} 0 1 = cc in omega arith
 
 -- No dot may follow a slash.
-slash_dot : (a b : ℕ) → a ≡ 47 → b ≡ 46 → pair a b ≡ allowed → ⊥
+slash_dot : (a b : ℕ) → a ≡ 47 → b ≡ 46 → fault_after a b ≡ allowed → ⊥
 slash_dot a b p q h = never 8 nothing (sym (rw (p, q)) ∙ h)
 
 -- c does not begin with a dot.
@@ -99,39 +102,63 @@ parts_unlocked (other {b} {s} {c} n p) front h k = (
   parts_unlocked p (front ++ b ∷ []) (ap ends_in_lock (append_assoc front (b ∷ []) c) ∙ h) k,
 )
 
+-- The bytes that rule 4 names, and those of rule 5.
+abbrev named4 : List ℕ
+named4 = 127 ∷ (32 ∷ (126 ∷ (94 ∷ (58 ∷ []))))
+
+abbrev named5 : List ℕ
+named5 = 63 ∷ (42 ∷ (91 ∷ []))
+
+-- No valid byte is one that these rules forbid.
+control_invalid : (b : ℕ) → invalid b ≡ false → (b < 32) ⊎ Among b named4 → ⊥
+control_invalid b v c = grind (arith, nat_tests)
+
+wildcard_invalid : (b : ℕ) → invalid b ≡ false → (b ≡ 42 → ⊥) → Among b named5 → ⊥
+wildcard_invalid b v n c = grind (arith, nat_tests)
+
 module _ (s : List ℕ) (h : Sound s) where
   -- A sound name has no invalid byte and no asterisk.
   sound_valid : (b : ℕ) → Among b s → (invalid b ≡ false) × (b ≡ 42 → ⊥)
   sound_valid b m = let p = follows_some 47 b s h.follows m in valid p.0 b p.1
 
+  -- What is false of each byte of a sound name is so by what is true of a valid one.
+  each_valid : (P : ℕ → Type 0) → ((b : ℕ) → invalid b ≡ false → (b ≡ 42 → ⊥) → P b → ⊥) → All (λ b. P b → ⊥) s
+  each_valid P f =
+      All-from_recursion (λ b. P b → ⊥) s
+      (all_from_each (λ b. P b → ⊥) s (λ b m. let v = sound_valid b m in f b v.0 v.1))
+
   -- No component of a sound name begins with a dot.
-  sound_dotless : (c : List ℕ) → Among c (components s) → Dotless c
-  sound_dotless c m =
+  sound_dotless : All Dotless (components s)
+  sound_dotless =
       let r = split s in
       let d = dotless_parts r.parts 47 h.follows in
-      each_from_all Dotless (r.first ∷ r.others) (d.0 refl, d.1) c (subst (Among c) r.all m)
+      subst (All Dotless) (sym r.all) (All-from_recursion Dotless (r.first ∷ r.others) (d.0 refl, d.1))
 
   -- No component of a sound name ends with .lock
-  sound_lockless : (c : List ℕ) → Among c (components s) → Lockless c
-  sound_lockless c m =
+  sound_lockless : All (λ c. Ends dot_lock c → ⊥) (components s)
+  sound_lockless =
       let r = split s in
-      each_from_all Lockless (r.first ∷ r.others) (unlocked_parts r.parts [] h.unlocked) c (subst (Among c) r.all m)
+      let u = unlocked_parts r.parts [] h.unlocked in
+      subst (All (λ c. Ends dot_lock c → ⊥)) (sym r.all)
+      (All-from_recursion (λ c. Ends dot_lock c → ⊥) (r.first ∷ r.others)
+      (all_from_each (λ c. Ends dot_lock c → ⊥) (r.first ∷ r.others)
+      (λ c m. not_from_Decides (ends_in_lock c) (lock_decides c) (each_from_all Lockless (r.first ∷ r.others) u c m))))
 
   -- A sound name keeps the rules.
   rules_from_sound : Rules s
   rules_from_sound = record {
     some_byte = h.some;
     no_dot_first = sound_dotless;
-    no_lock_last = λ c m. not_from_Decides (ends_in_lock c) (lock_decides c) (sound_lockless c m);
+    no_lock_last = sound_lockless;
     no_dots = lacks s 46 46 h.follows (never 4 nothing);
-    no_control = λ b m c. let v = sound_valid b m in grind (arith, nat_tests);
-    no_wildcard = λ b m c. let v = sound_valid b m in grind (arith, nat_tests);
+    no_control = each_valid _ (λ b v n c. control_invalid b v (⊎_elim inl (λ m. inr (among_contains named4 b m)) c));
+    no_wildcard = each_valid _ (λ b v n c. wildcard_invalid b v n (among_contains named5 b c));
     no_slash_first = λ b. never 3 nothing (subst (Follows 47) b.1 h.follows).0;
     no_slash_last = λ e. h.no_slash_last (ap last_byte e.1 ∙ last_byte_push e.0 47);
     no_slashes = lacks s 47 47 h.follows (never 3 nothing);
     no_dot_last = λ e. h.no_dot_last (ap last_byte e.1 ∙ last_byte_push e.0 46);
     no_reflog = lacks s 64 123 h.follows (never 6 nothing);
-    no_backslash = λ m. let v = (sound_valid 92 m).0 in grind (arith, nat_tests);
+    no_backslash = λ m. let v = (sound_valid 92 (among_contains s 92 m)).0 in grind (arith, nat_tests);
   }
 
 -- An allowed name keeps the rules.
@@ -139,13 +166,13 @@ pub rules_from_allowed : (s : List ℕ) → tag_name s ≡ allowed → Rules s
 rules_from_allowed s h = rules_from_sound s (sound_from_allowed s h)
 
 -- A valid byte, no asterisk, may follow another, but for the four pairs that are refused.
-pair_passes : (x y : ℕ) → invalid y ≡ false → (y ≡ 42 → ⊥) → (x ≡ 46 → y ≡ 46 → ⊥) → (x ≡ 47 → y ≡ 46 → ⊥)
-    → (x ≡ 64 → y ≡ 123 → ⊥) → (x ≡ 47 → y ≡ 47 → ⊥) → pair x y ≡ allowed
-pair_passes x y v star dots dot reflog slashes = grind (arith, nat_tests)
+fault_after_passes : (x y : ℕ) → invalid y ≡ false → (y ≡ 42 → ⊥) → (x ≡ 46 → y ≡ 46 → ⊥) → (x ≡ 47 → y ≡ 46 → ⊥)
+    → (x ≡ 64 → y ≡ 123 → ⊥) → (x ≡ 47 → y ≡ 47 → ⊥) → fault_after x y ≡ allowed
+fault_after_passes x y v star dots dot reflog slashes = grind (arith, nat_tests)
 
 -- The bytes follow each other where each two neighbours do, a dot after a slash left to the components.
 follows_parts : {s c : List ℕ} {cs : List (List ℕ)} → Parts s c cs → (a : ℕ) → (a ≡ 47 → Dotless c) → AllByRecursion Dotless cs
-    → ((f : List ℕ) (x y : ℕ) (r : List ℕ) → a ∷ s ≡ f ++ x ∷ (y ∷ r) → (x ≡ 47 → y ≡ 46 → ⊥) → pair x y ≡ allowed)
+    → ((f : List ℕ) (x y : ℕ) (r : List ℕ) → a ∷ s ≡ f ++ x ∷ (y ∷ r) → (x ≡ 47 → y ≡ 46 → ⊥) → fault_after x y ≡ allowed)
     → Follows a s
 follows_parts ends a d ds near = tt
 follows_parts (slash {s} p) a d ds near = (
@@ -158,7 +185,7 @@ follows_parts (other {b} {s} {c} n p) a d ds near = (
 )
 
 -- A list that is not empty ends with its last byte.
-ends_from_last : (b : ℕ) (s : List ℕ) → (s ≡ [] → ⊥) → last_byte s ≡ b → Ends (b ∷ []) s
+pub ends_from_last : (b : ℕ) (s : List ℕ) → (s ≡ [] → ⊥) → last_byte s ≡ b → Ends (b ∷ []) s
 ends_from_last b [] n e = absurd (n refl)
 ends_from_last b (x ∷ s) n e =
     (_, end_from_reads 0 (x ∷ s) (b ∷ []) (omega arith) (λ i l. grind arith))
@@ -167,24 +194,27 @@ module _ (s : List ℕ) (h : Rules s) where
   -- A name that keeps the rules has no invalid byte and no asterisk.
   rules_valid : (b : ℕ) → Among b s → (invalid b ≡ false) × (b ≡ 42 → ⊥)
   rules_valid b m =
-      let control = h.no_control b m in
-      let wildcard = h.no_wildcard b m in
-      let back = h.no_backslash in
+      let control : (b < 32) ⊎ Among b named4 → ⊥ =
+      λ c. All-contains (λ x. (x < 32) ⊎ Contains named4 x → ⊥) s b h.no_control (contains_among s b m)
+      (⊎_elim inl (λ k. inr (contains_among named4 b k)) c) in
+      let wildcard : Among b named5 → ⊥ =
+      λ c. All-contains (λ x. Contains named5 x → ⊥) s b h.no_wildcard (contains_among s b m) (contains_among named5 b c) in
+      let back : b ≡ 92 → ⊥ = λ e. h.no_backslash (subst (Contains s) e (contains_among s b m)) in
       (grind (arith, nat_tests), λ e. wildcard (inr (inl e)))
 
   -- With a slash before the name, two neighbours that are not a slash and a dot may follow each other.
   rules_near : (f : List ℕ) (x y : ℕ) (r : List ℕ) → 47 ∷ s ≡ f ++ x ∷ (y ∷ r) → (x ≡ 47 → y ≡ 46 → ⊥)
-      → pair x y ≡ allowed
+      → fault_after x y ≡ allowed
   rules_near [] x y r e n =
       let t : s ≡ y ∷ r = cc in
       let slash : x ≡ 47 = cc in
       let v = rules_valid y (subst (Among y) (sym t) (inl refl)) in
-      pair_passes x y v.0 v.1 (λ p _. omega arith) n (λ p _. omega arith)
+      fault_after_passes x y v.0 v.1 (λ p _. omega arith) n (λ p _. omega arith)
       (λ _ p. h.no_slash_first (r, t ∙ ap (λ b. b ∷ r) p))
   rules_near (z ∷ f) x y r e n =
       let t : s ≡ f ++ x ∷ (y ∷ r) = cc in
       let v = rules_valid y (subst (Among y) (sym (t ∙ sym (append_assoc f (x ∷ []) (y ∷ r)))) (among_at (f ++ x ∷ []) y r)) in
-      pair_passes x y v.0 v.1
+      fault_after_passes x y v.0 v.1
       (λ p q. h.no_dots f r (t ∙ rw (p, q))) n (λ p q. h.no_reflog f r (t ∙ rw (p, q)))
       (λ p q. h.no_slashes f r (t ∙ rw (p, q)))
 
@@ -192,9 +222,11 @@ module _ (s : List ℕ) (h : Rules s) where
   sound_from_rules : Sound s
   sound_from_rules =
       let r = split s in
-      let each : (c : List ℕ) → Among c (r.first ∷ r.others) → Among c (components s) = λ c m. subst (Among c) (sym r.all) m in
-      let dots = all_from_each Dotless (r.first ∷ r.others) (λ c m. h.no_dot_first c (each c m)) in
-      let locks = all_from_each Lockless (r.first ∷ r.others) (λ c m. lockless c (h.no_lock_last c (each c m))) in
+      let dots = recursion_from_All Dotless (r.first ∷ r.others) (subst (All Dotless) r.all h.no_dot_first) in
+      let ends = recursion_from_All (λ c. Ends dot_lock c → ⊥) (r.first ∷ r.others)
+      (subst (All (λ c. Ends dot_lock c → ⊥)) r.all h.no_lock_last) in
+      let locks = all_from_each Lockless (r.first ∷ r.others)
+      (λ c m. lockless c (each_from_all (λ c. Ends dot_lock c → ⊥) (r.first ∷ r.others) ends c m)) in
       record {
         some = h.some_byte;
         follows = follows_parts r.parts 47 (λ _. dots.0) dots.1 rules_near;
@@ -210,7 +242,7 @@ allowed_from_rules s h = allowed_from_sound s (sound_from_rules s h)
 -- No error stands for an allowed name.
 refusal_never : (e : Error) → refusal e ≡ allowed → ⊥
 refusal_never e h =
-    never 0 nothing (sym (ap (λ w. first_of w (refused 0 nothing)) h) ∙ (refusal_decides e (refused 0 nothing) ∙ h))
+    never 0 nothing (sym (ap (λ w. first_refusal w (refused 0 nothing)) h) ∙ (refusal_decides e (refused 0 nothing) ∙ h))
 
 -- A result that stands for the answer is Ok exactly where the name keeps the rules.
 pub decides_rules : {T : Type 0} (r : Result T Error) (s : List ℕ) → answer_of r ≡ tag_name s → Decides (is_ok r) (Rules s)

@@ -2,12 +2,12 @@
 use Rattle.std.proofs.Common.{◌≡◌, ℕ, false, List, [], ◌∷◌, ◌++◌}
 use Rattle.tag.specs.Answers.Answer.{allowed}
 use Rattle.tag.specs.Bytes.{last_byte, ends_in_lock}
-use Rattle.tag.specs.Names.{pair}
+use Rattle.tag.specs.Names.{fault_after}
 
 -- Each byte may follow the one before it, and the first may follow a.
 abbrev pub Follows : ℕ → List ℕ → Type 0
 Follows a [] = Unit {0}
-Follows a (b ∷ s) = (pair a b ≡ allowed) × Follows b s
+Follows a (b ∷ s) = (fault_after a b ≡ allowed) × Follows b s
 
 -- With `front` before it, s has no slash and no end after .lock
 abbrev pub Unlocked : List ℕ → List ℕ → Type 0

@@ -2,33 +2,33 @@
 use Rattle.std.proofs.Common.{◌≡◌, ℕ, false, List, [], ◌∷◌, ◌++◌, get_or, sym, refl, ap, ◌∙◌, subst, arith}
 use Rattle.std.proofs.lemmas.List.{append-nil, append_assoc}
 use Rattle.std.proofs.lemmas.Bool.Decides.{nat_tests}
-use Rattle.tag.specs.Answers.{Answer, first_of}
+use Rattle.tag.specs.Answers.{Answer, Value, first_refusal}
 use Rattle.tag.specs.Answers.Answer.{allowed, refused}
 use Rattle.tag.specs.Bytes.{last_byte, ends_in_lock}
-use Rattle.tag.specs.Names.{pair, fault, reads, opening, closing, tag_name}
+use Rattle.tag.specs.Names.{fault_after, fault, reads, opening, closing, tag_name}
 use Rattle.tag.proofs.Reading.{last_byte_push}
 use Rattle.tag.proofs.Sound.{Follows, Unlocked, Sound}
 
 -- Where two checks allow together, each allows.
-both_allow : (x y : Answer) → first_of x y ≡ allowed → (x ≡ allowed) × (y ≡ allowed)
+both_allow : (x y : Answer Value) → first_refusal x y ≡ allowed → (x ≡ allowed) × (y ≡ allowed)
 both_allow allowed y h = (refl, h)
 both_allow (refused n v) y h = let z : ◌≡◌ {A = ℕ} 0 1 = cc in absurd (omega arith)
 
 -- Where each allows, two checks allow together.
-allow_both : (x y : Answer) → x ≡ allowed → y ≡ allowed → first_of x y ≡ allowed
+allow_both : (x y : Answer Value) → x ≡ allowed → y ≡ allowed → first_refusal x y ≡ allowed
 allow_both x y p q = rw p q
 
 -- A byte with no fault may follow the last one and, if it is a slash, .lock does not stand before it.
 fault_parts : (front : List ℕ) (b : ℕ) → fault front b ≡ allowed
-    → (pair (last_byte front) b ≡ allowed) × (b ≡ 47 → ends_in_lock front ≡ false)
+    → (fault_after (last_byte front) b ≡ allowed) × (b ≡ 47 → ends_in_lock front ≡ false)
 fault_parts front b h =
-    let p = both_allow (pair (last_byte front) b) _ h in
+    let p = both_allow (fault_after (last_byte front) b) _ h in
     (p.0, λ e. grind (arith, nat_tests))
 
 -- Such a byte has no fault.
-fault_none : (front : List ℕ) (b : ℕ) → pair (last_byte front) b ≡ allowed → (b ≡ 47 → ends_in_lock front ≡ false)
+fault_none : (front : List ℕ) (b : ℕ) → fault_after (last_byte front) b ≡ allowed → (b ≡ 47 → ends_in_lock front ≡ false)
     → fault front b ≡ allowed
-fault_none front b p u = allow_both (pair (last_byte front) b) _ p (grind (arith, nat_tests))
+fault_none front b p u = allow_both (fault_after (last_byte front) b) _ p (grind (arith, nat_tests))
 
 -- Where the reading allows `rest` after `front` and the whole does not end in .lock, `rest` follows unlocked.
 read_from : (front rest : List ℕ) → reads front rest ≡ allowed → ends_in_lock (front ++ rest) ≡ false
@@ -52,7 +52,7 @@ read_to front (b ∷ rest) f u =
       ap ends_in_lock (sym (append_assoc front (b ∷ []) rest)) ∙ r.1,
     )
 
--- A name that passes the closing lines does not end in .lock, also where it is no longer than that.
+-- A name that passes the closing rules does not end in .lock, also where it is no longer than that.
 closing_unlocked : (s : List ℕ) → closing s ≡ allowed → ends_in_lock s ≡ false
 closing_unlocked s h = grind (arith, nat_tests)
 
@@ -76,14 +76,14 @@ sound_from_allowed (b ∷ s) h =
     }
 
 -- A first byte that may follow a slash may follow nothing, and is no dot and no slash.
-first_byte : (b : ℕ) → pair 47 b ≡ allowed → (pair 0 b ≡ allowed) × ((b ≡ 46 → ⊥) × (b ≡ 47 → ⊥))
+first_byte : (b : ℕ) → fault_after 47 b ≡ allowed → (fault_after 0 b ≡ allowed) × ((b ≡ 46 → ⊥) × (b ≡ 47 → ⊥))
 first_byte b h = (grind (arith, nat_tests), (λ e. grind (arith, nat_tests), λ e. grind (arith, nat_tests)))
 
--- A name with a byte and no slash at either end passes the opening lines.
+-- A name with a byte and no slash at either end passes the opening rules.
 opening_passes : (b : ℕ) (s : List ℕ) → (b ≡ 47 → ⊥) → (last_byte (b ∷ s) ≡ 47 → ⊥) → opening (b ∷ s) ≡ allowed
 opening_passes b s n l = grind (arith, nat_tests)
 
--- A name that ends neither in .lock nor in a dot and begins with no dot passes the closing lines.
+-- A name that ends neither in .lock nor in a dot and begins with no dot passes the closing rules.
 closing_passes : (s : List ℕ) → ends_in_lock s ≡ false → (get_or s 0 0 ≡ 46 → ⊥) → (last_byte s ≡ 46 → ⊥)
     → closing s ≡ allowed
 closing_passes s u n l = rw u (grind (arith, nat_tests))

@@ -10,7 +10,7 @@ use Rattle.std.proofs.lemmas.List.Quantifiers.{position-Some}
 use Rattle.std.specs.Option.{option_map, unwrap_or}
 use Rattle.std.proofs.lemmas.Option.{none-some}
 use Rattle.tag.specs.Components.{components, onto}
-use Rattle.tag.specs.Cuts.{split_once}
+use Rattle.tag.specs.Splits.{split_once}
 
 -- It ends before the first slash.
 pub before_slash : (n : ℕ) (s : List ℕ) → n < length s → ((k : ℕ) → k < n → get_or s k 0 ≡ 47 → ⊥) → get_or s n 0 ≡ 47
@@ -35,24 +35,24 @@ slash_at s n e =
     let p = position-Some (λ b. eqb b 47) s n 0 e in
     rw add-one (before_slash n s p.0 (λ k l q. eqb-false _ _ (p.2 k l) q) (eqb-true _ _ p.1))
 
--- Where a byte string is cut at its first slash, its first component precedes the cut, and the others are those of what follows.
-pub components-cut : (s : List ℕ) (p : List ℕ × List ℕ) → split_once 47 s ≡ Some p → components s ≡ p.0 ∷ components p.1
-components-cut s p e = cut (position (λ b. eqb b 47) s) refl e
+-- Where a byte string is split at its first slash, its first component precedes it, and the others are those of what follows.
+pub components-split : (s : List ℕ) (p : List ℕ × List ℕ) → split_once 47 s ≡ Some p → components s ≡ p.0 ∷ components p.1
+components-split s p e = split (position (λ b. eqb b 47) s) refl e
   where
-    cut : (o : Option ℕ) → position (λ b. eqb b 47) s ≡ o → option_map {U = List ℕ × List ℕ} (λ i. (take i s, drop (i + 1) s)) o ≡ Some p
+    split : (o : Option ℕ) → position (λ b. eqb b 47) s ≡ o → option_map {U = List ℕ × List ℕ} (λ i. (take i s, drop (i + 1) s)) o ≡ Some p
         → components s ≡ p.0 ∷ components p.1
-    cut None q r = absurd (none-some _ r)
-    cut (Some n) q r = subst (λ t. components s ≡ t.0 ∷ components t.1) (ap (λ o. unwrap_or o p) r) (slash_at s n q)
+    split None q r = absurd (none-some _ r)
+    split (Some n) q r = subst (λ t. components s ≡ t.0 ∷ components t.1) (ap (λ o. unwrap_or o p) r) (slash_at s n q)
 
--- A byte string that is not cut has no slash, so it is its only component.
-pub components-uncut : (s : List ℕ) → split_once 47 s ≡ None → components s ≡ s ∷ []
-components-uncut s e = uncut (position (λ b. eqb b 47) s) refl e
+-- A byte string that is not split has no slash, so it is its only component.
+pub components-unsplit : (s : List ℕ) → split_once 47 s ≡ None → components s ≡ s ∷ []
+components-unsplit s e = whole (position (λ b. eqb b 47) s) refl e
   where
-    uncut : (o : Option ℕ) → position (λ b. eqb b 47) s ≡ o → option_map {U = List ℕ × List ℕ} (λ i. (take i s, drop (i + 1) s)) o ≡ None → components s ≡ s ∷ []
-    uncut (Some n) q r = absurd (none-some _ (sym r))
-    uncut None q r = no_slash s (λ k l t.
-        let within : k < prefix_len (λ b. not (eqb b 47)) s = grind (arith, common_steps) in
-        let other = prefix_len_passes (λ b. not (eqb b 47)) s k 0 within in
+    whole : (o : Option ℕ) → position (λ b. eqb b 47) s ≡ o → option_map {U = List ℕ × List ℕ} (λ i. (take i s, drop (i + 1) s)) o ≡ None → components s ≡ s ∷ []
+    whole (Some n) q r = absurd (none-some _ (sym r))
+    whole None q r = no_slash s (λ k l t.
+        let before : k < prefix_len (λ b. not (eqb b 47)) s = grind (arith, common_steps) in
+        let other = prefix_len_passes (λ b. not (eqb b 47)) s k 0 before in
         let slash = eq-eqb _ 47 t in
         grind arith)
 

@@ -1,13 +1,13 @@
 -- The number and the value of each error, and the answer that a result stands for.
-use Rattle.std.specs.Prelude.{ℕ, Ok, Err, Result}
-use Rattle.tag.specs.Answers.{Answer}
+use Rattle.std.specs.Prelude.{Ok, Err, Result}
+use Rattle.tag.specs.Answers.{Answer, Value}
 use Rattle.tag.specs.Answers.Answer.{allowed, refused}
 use Rattle.tag.specs.Answers.Value.{nothing, byte}
 use Rattle.tag.specs.declared.Error.{Error}
 use Rattle.tag.specs.declared.Error.TheVariants.{InvalidByte, StartsWithSlash, RepeatedSlash, RepeatedDot, LockFileSuffix, ReflogPortion, Asterisk, StartsWithDot, EndsWithDot, EndsWithSlash, Empty}
 
 -- The refusal that an error stands for.
-abbrev pub refusal : Error → Answer
+abbrev pub refusal : Error → Answer Value
 refusal (InvalidByte b) = refused 1 (byte b)
 refusal StartsWithSlash = refused 2 nothing
 refusal RepeatedSlash = refused 3 nothing
@@ -21,11 +21,6 @@ refusal EndsWithSlash = refused 10 nothing
 refusal Empty = refused 11 nothing
 
 -- The answer that a result stands for.
-abbrev pub answer_of : {T : Type 0} → Result T Error → Answer
+abbrev pub answer_of : {T : Type 0} → Result T Error → Answer Value
 answer_of (Ok v) = allowed
 answer_of (Err e) = refusal e
-
--- The number of an answer, 0 for an allowed name.
-abbrev pub number_of : Answer → ℕ
-number_of allowed = 0
-number_of (refused n v) = n

@@ -1,11 +1,12 @@
 -- The definitions that the contracts of tag names cite.
 pub mod Answers
 pub mod Bytes
+pub mod Fronts
 pub mod Components
-pub mod Cuts
+pub mod ComponentsLeft
+pub mod Splits
 pub mod Names
+pub mod Refusals
 pub mod Errors
 pub mod Manual
 pub mod Scanning
-pub mod Ordinary
-pub mod Parts

@@ -1,8 +1,8 @@
 //! The components of a name: its parts between slashes, from the left.
-ghost use Rattle.std.specs.Prelude.{◌≡◌};
+ghost use Rattle.std.specs.Prelude.{◌≡◌, ℕ, List};
 ghost use Rattle.std.specs.Iterator.{YieldsFirstRef, item_count};
-ghost use Rattle.tag.specs.Components.{components};
-ghost use Rattle.tag.specs.Parts.{parts_left};
+ghost use Rattle.tag.specs.Components.{AreComponents, components};
+ghost use Rattle.tag.specs.ComponentsLeft.{components_left};
 
 use crate::splits::split_once;
 
@@ -15,7 +15,10 @@ pub struct Components<'a> {
 impl<'a> Components<'a> {
     /// The components of `name`.
     pub fn of(name: &'a [u8]) -> Components<'a>
-        ensures { parts_left result ≡ components name.now }
+        ensures answer { components_left result ≡ components name.now }
+        ensures components { AreComponents name.now (components_left result) }
+        ensures no_others { (cs : List (List ℕ))
+            → AreComponents name.now cs → cs ≡ components_left result }
     {
         Components { rest: Some(name) }
     }
@@ -25,9 +28,9 @@ impl<'a> Components<'a> {
 impl<'a> Iterator for Components<'a> {
     type Item = &'a [u8];
 
-    ghost next_gives = { YieldsFirstRef parts_left };
+    ghost next_gives = { YieldsFirstRef components_left };
 
-    ghost remaining = { item_count parts_left };
+    ghost remaining = { item_count components_left };
 
     fn next(&mut self) -> Option<&'a [u8]> {
         let rest = self.rest?;

@@ -1,12 +1,14 @@
 //! Tag names: the check, its errors, and the scanner that reads a name byte by byte.
 #![tactic(auto)]
 
-ghost use Rattle.std.specs.Prelude.{◌≡◌, [], is_ok, IfOk, Decides};
+ghost use Rattle.std.specs.Prelude.{◌≡◌, ◌↔◌, [], is_ok, IfOk, IsTrue};
+ghost use Rattle.tag.specs.Answers.{Answer, IsFirst, Value, number_of};
 ghost use Rattle.tag.specs.Bytes.{ends_in_lock};
-ghost use Rattle.tag.specs.Components.{Splits, components};
-ghost use Rattle.tag.specs.Errors.{answer_of, number_of, refusal};
+ghost use Rattle.tag.specs.Components.{AreComponents, components};
+ghost use Rattle.tag.specs.Errors.{answer_of, refusal};
 ghost use Rattle.tag.specs.Manual.{Rules};
 ghost use Rattle.tag.specs.Names.{closing, opening, reads, tag_name};
+ghost use Rattle.tag.specs.Refusals.{Applies};
 
 use scanner::Scanner;
 
@@ -70,7 +72,7 @@ pub fn ends_in_lock(bytes: &[u8]) -> bool
     bytes.ends_with(b".lock")
 }
 
-/// The lines before any byte is read: no byte, a last slash, a first slash.
+/// The rules before any byte is read: no byte, a last slash, a first slash.
 fn before_reading(input: &[u8]) -> Result<(), Error>
     ensures { answer_of result ≡ opening input.now }
 {
@@ -97,7 +99,7 @@ fn read(input: &[u8]) -> Result<(), Error>
     Ok(())
 }
 
-/// The lines after the bytes: `.lock` at the end of a longer name, a first dot, a last dot.
+/// The rules after the bytes: `.lock` at the end of a longer name, a first dot, a last dot.
 fn after_reading(input: &[u8]) -> Result<(), Error>
     ensures { answer_of result ≡ closing input.now }
 {
@@ -111,7 +113,7 @@ fn after_reading(input: &[u8]) -> Result<(), Error>
     }
 }
 
-/// The answer for `input`, by its three groups of lines.
+/// The answer for `input`, by its three groups of rules.
 fn check(input: &[u8]) -> Result<(), Error>
     ensures { answer_of result ≡ tag_name input.now }
 {
@@ -123,8 +125,10 @@ fn check(input: &[u8]) -> Result<(), Error>
 /// Whether `input` is an allowed tag name: then it is the answer itself, and else the first refusal is.
 pub fn name(input: &[u8]) -> Result<&[u8], Error>
     ensures answer { answer_of result ≡ tag_name input.now }
-    ensures parts { Splits input.now (components input.now) }
-    ensures manual { Decides (is_ok result) (Rules input.now) }
+    ensures first { IsFirst (Applies input.now) (answer_of result) }
+    ensures no_other { (a : Answer Value) → IsFirst (Applies input.now) a → a ≡ answer_of result }
+    ensures components { AreComponents input.now (components input.now) }
+    ensures manual { IsTrue (is_ok result) ↔ Rules input.now }
     ensures view { IfOk result (λ v. v ≡ input.entry) }
 {
     check(input)?;

@@ -1,9 +1,8 @@
 //! The scanner of names: its state is what the byte before was.
 ghost use Rattle.std.specs.Prelude.{◌≡◌, ℕ};
 ghost use Rattle.tag.specs.Errors.{answer_of};
-ghost use Rattle.tag.specs.Names.{pair};
-ghost use Rattle.tag.specs.Ordinary.{ordinary};
-ghost use Rattle.tag.specs.Scanning.{after};
+ghost use Rattle.tag.specs.Names.{fault_after};
+ghost use Rattle.tag.specs.Scanning.{after, ordinary};
 
 use super::Error;
 
@@ -33,7 +32,7 @@ impl Scanner {
     /// ordinary byte has no fault, so it is passed at once.
     pub fn step(&mut self, byte: u8) -> Result<(), Error>
         ensures moves { self.new ≡ after byte }
-        ensures finds { (a : ℕ) → self.old ≡ after a → answer_of result ≡ pair a byte }
+        ensures finds { (a : ℕ) → self.old ≡ after a → answer_of result ≡ fault_after a byte }
     {
         if ordinary(byte) {
             *self = Scanner::AfterOther;

@@ -1,8 +1,6 @@
-//! A byte string cut at the first of some byte.
-ghost use Rattle.std.specs.Prelude.{◌≡◌, ◌==◌};
-ghost use Rattle.std.specs.List.{position};
-ghost use Rattle.std.specs.Option.{option_map};
-ghost use Rattle.tag.specs.Cuts.{split_once, two_parts};
+//! A byte string split at the first of some byte.
+ghost use Rattle.std.specs.Prelude.{◌≡◌, ◌==◌, option_map, position};
+ghost use Rattle.tag.specs.Splits.{split_once, two_parts};
 
 /// The place of the first such byte, if there is one.
 fn first_place(text: &[u8], byte: u8) -> Option<usize>

@@ -1,5 +1,5 @@
 //! Checks of Git's tag names, reference names and path components, and a mender of partial names: safe Rust over the
-//! proved static library `libexports.a`.
+//! proved static library `libc_names.a`.
 #![deny(missing_docs)]
 
 mod errors;
@@ -134,7 +134,7 @@ pub fn path_component(input: &[u8], mode: Option<Mode>, options: Options) -> Res
     })
 }
 
-/// Whether Windows takes the component for a device, such as `CON` or `lpt1.txt`.
+/// Whether the component's device key is one of the listed names, as of `CON` or `lpt1.txt`.
 #[inline]
 pub fn path_component_is_windows_device(input: &[u8]) -> bool {
     // SAFETY: the pointer of a slice is not null and is good for its length; the library keeps neither.

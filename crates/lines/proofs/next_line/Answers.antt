@@ -3,18 +3,18 @@ use Rattle.std.proofs.Common.{◌≡◌, ℕ, ◌<◌, eqb, List, [], ◌∷◌,
 use Rattle.std.proofs.lemmas.Grind.{common_steps}
 use Rattle.std.specs.Option.{option_map, unwrap_or}
 use Rattle.std.specs.List.{after_first, before_first}
-use Rattle.tag.specs.Cuts.{split_once, two_parts}
+use Rattle.tag.specs.Splits.{split_once, two_parts}
 use Rattle.lines.specs.Lines.{lines}
-use Rattle.lines.proofs.FirstLine.{lines-cut, lines-uncut, parts-cut, parts-uncut}
+use Rattle.lines.proofs.FirstLine.{lines-split, lines-unsplit, parts-split, parts-unsplit}
 use Rattle.lines.proofs.next_line.Goals as goal
 
--- The two parts of a cut, or else the text and no byte.
+-- The two parts of a split, or else the text and no byte.
 first_and_rest : (s : List ℕ) (o : Option (Bor (List ℕ) × Bor (List ℕ))) (d : Bor (List ℕ) × Bor (List ℕ)) → 0 < length s
     → d.0.now ≡ s → d.1.now ≡ [] → option_map two_parts o ≡ split_once 10 s
     → lines s ≡ (unwrap_or o d).0.now ∷ lines (unwrap_or o d).1.now
 unfolding lines
-first_and_rest s (Some p) d some text none e = lines-cut s (two_parts p) (sym e)
-first_and_rest s None d some text none e = let h = lines-uncut s some (sym e) in rw (text, none) h
+first_and_rest s (Some p) d some text none e = lines-split s (two_parts p) (sym e)
+first_and_rest s None d some text none e = let h = lines-unsplit s some (sym e) in rw (text, none) h
 
 pub returns-clause-splits : goal.returns-clause-splits
 returns-clause-splits c =
@@ -24,8 +24,8 @@ returns-clause-splits c =
 before_and_after : (s : List ℕ) (o : Option (Bor (List ℕ) × Bor (List ℕ))) (d : Bor (List ℕ) × Bor (List ℕ))
     → d.0.now ≡ s → d.1.now ≡ [] → option_map two_parts o ≡ split_once 10 s
     → ((unwrap_or o d).0.now ≡ before_first (λ b. eqb b 10) s) × ((unwrap_or o d).1.now ≡ after_first (λ b. eqb b 10) s)
-before_and_after s (Some p) d text none e = parts-cut s (two_parts p) (sym e)
-before_and_after s None d text none e = let h = parts-uncut s (sym e) in rw (text, none) h
+before_and_after s (Some p) d text none e = parts-split s (two_parts p) (sym e)
+before_and_after s None d text none e = let h = parts-unsplit s (sym e) in rw (text, none) h
 
 pub returns-clause-parts : goal.returns-clause-parts
 returns-clause-parts c = rw c.unwrap_or.ensures (before_and_after c.args.text.now c.split_once.result _ refl refl c.split_once.ensures)

@@ -6,7 +6,7 @@ use Rattle.std.proofs.lemmas.Iterator.Consumers.{YieldsList-from_first}
 use Rattle.std.proofs.lemmas.Iterator.Search.{find_from_yields_List}
 use borrow.Author.Tests.{tests}
 use Rattle.tag.specs.Components.{components}
-use Rattle.tag.specs.Parts.{parts_left}
+use Rattle.tag.specs.ComponentsLeft.{components_left}
 use Rattle.protections.proofs.Equal.{tested, test_mapped}
 use Rattle.meetings.specs.Meeting.{meet}
 use Rattle.meetings.proofs.Meetings.{meet_decides}
@@ -21,7 +21,7 @@ returns g c =
     let right = components c.args.right.now in
     let first =
     find_from_yields_List differ _ _ c.find.result c.find.ensures.ran
-    (YieldsList-from_zip (YieldsList-from_first (λ x. x.now) parts_left left cc) (YieldsList-from_first (λ x. x.now) parts_left right cc))
+    (YieldsList-from_zip (YieldsList-from_first (λ x. x.now) components_left left cc) (YieldsList-from_first (λ x. x.now) components_left right cc))
     (λ x b q k. search (rules, tests))
     in
     let test : c.is_none_or.result ≡ meet together c.args.left.now c.args.right.now =

@@ -1,9 +1,9 @@
 use Rattle.std.proofs.Common.{rules, ◌≡◌, ◌-◌, ◌++◌, length, replicate, refl, sym, ap, ◌∙◌, subst, arith}
-use Rattle.std.specs.List.{AllByRecursion}
-use Rattle.tag.specs.Components.{Among, components}
-use Rattle.tag.specs.Parts.{parts_left}
-use Rattle.tag.proofs.Members.{all_from_each}
-use Rattle.tag.proofs.Parts.{joined_components, slash_free}
+use Rattle.std.specs.List.{AllByRecursion, Contains}
+use Rattle.std.proofs.lemmas.List.Elements.{recursion_from_All}
+use Rattle.tag.specs.Components.{components}
+use Rattle.tag.specs.ComponentsLeft.{components_left}
+use Rattle.tag.proofs.Parts.{are_components}
 use Rattle.mending.specs.Mender.{dash_alone, dash_end, mended, room}
 use Rattle.mending.specs.Steps.{add_all}
 use Rattle.mending.specs.Texts.{text_of}
@@ -16,23 +16,24 @@ loop-component-init c =
     let s = c.args.input.now in
     let t = c.new-text.result in
     let n = c.new-text.ensures in
-    let parts = ap parts_left c.into_iter-component-iterator.ensures.into_iter_gives ∙ c.of-component-items.ensures in
-    let joins = ap length (joined_components s) in
+    let parts = ap components_left c.into_iter-component-iterator.ensures.into_iter_gives ∙ c.of-component-items.ensures.answer in
+    let whole = are_components s in
+    let joins = ap length whole.joins in
     let bytes = ap length n.same_bytes in (
       rw (n.empty, parts) refl,
-      rw parts (all_from_each (λ d. Among 47 d → ⊥) (components s) (slash_free s)),
+      rw parts (recursion_from_All (λ d. Contains d 47 → ⊥) (components s) whole.slash_free),
       rw parts (room_all (components s) t.end (length t.buffer.now) n.empty (omega arith)),
       (refl, refl),
     )
 
 pub push_component-requires-clause-slash_free : goal.push_component-requires-clause-slash_free
 push_component-requires-clause-slash_free c =
-    (subst (AllByRecursion (λ d. Among 47 d → ⊥)) c.in-Some.ensures.steps c.loop-component.invariant.1).0
+    (subst (AllByRecursion (λ d. Contains d 47 → ⊥)) c.in-Some.ensures.steps c.loop-component.invariant.1).0
 
 pub push_component-requires-clause-room : goal.push_component-requires-clause-room
 push_component-requires-clause-room c =
     let t = c.loop-component.text in
-    room_first _ (parts_left c.next.new.self) t.end _
+    room_first _ (components_left c.next.new.self) t.end _
     (subst (λ cs. Room cs t.end (length t.buffer.now)) c.in-Some.ensures.steps c.loop-component.invariant.2)
 
 pub loop-component-preserved : goal.loop-component-preserved
@@ -40,11 +41,11 @@ unfolding add_all
 loop-component-preserved c =
     let t = c.loop-component.text in
     let steps = c.in-Some.ensures.steps in
-    let rest = parts_left c.next.new.self in
+    let rest = components_left c.next.new.self in
     let i = c.loop-component.invariant in
     let p = c.push_component.ensures in (
       ap (λ x. add_all x rest) p.adds ∙ (sym (ap (add_all (text_of t)) steps) ∙ i.0),
-      (subst (AllByRecursion (λ d. Among 47 d → ⊥)) steps i.1).1,
+      (subst (AllByRecursion (λ d. Contains d 47 → ⊥)) steps i.1).1,
       rw p.keeps.1 (room_rest _ rest t.end _ _ (subst (λ cs. Room cs t.end (length t.buffer.now)) steps i.2) p.bound),
       same_buffer c.new-text.result t c.push_component.new.self i.3 p.keeps,
     )

@@ -1,5 +1,5 @@
 use Rattle.std.specs.Prelude.{refl}
-use Rattle.samples.proofs.Components.{com_zero, cut_short, lpt_zero, short_link, slash_within}
+use Rattle.samples.proofs.Components.{com_zero, start_of_character, lpt_zero, no_character, short_link, slash_inside}
 use Rattle.samples.proofs.Names.{at_lock, at_sign, dot_and_space, dots_lock, lock_first, locks, only_lock, slash}
 use Rattle.samples.proofs.Registers.{below, moved_below}
 use Rattle.samples.proofs.proved.Goals as goal
@@ -24,7 +24,7 @@ returns-clause-each c = (
               dots_lock,
               (
                 only_lock,
-                (lpt_zero, (com_zero, (cut_short, (short_link, (slash_within, (below, (moved_below, tt))))))),
+                (lpt_zero, (com_zero, (start_of_character, (no_character, (short_link, (slash_inside, (below, (moved_below, tt)))))))),
               ),
             ),
           ),

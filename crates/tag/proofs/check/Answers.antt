@@ -1,4 +1,4 @@
--- The first group of lines that refuses decides.
+-- The first group of rules that refuses decides.
 use Rattle.std.proofs.Common.{[]}
 use Rattle.std.proofs.lemmas.Result.{err_from_is_err_and}
 use Rattle.tag.specs.Names.{opening, reads, tag_name}

@@ -4,9 +4,9 @@ use Rattle.std.proofs.lemmas.List.{at_drop_all}
 use Rattle.std.proofs.lemmas.Result.{err_from_is_err_and}
 use Rattle.tag.specs.Answers.Answer.{allowed}
 use Rattle.tag.specs.Bytes.{last_byte, ends_in_lock}
-use Rattle.tag.specs.Names.{pair, reads}
+use Rattle.tag.specs.Names.{fault_after, reads}
 use Rattle.tag.specs.Scanning.{after}
-use Rattle.tag.proofs.Reading.{after_slash, slash_after, reads_pair, reads_on, reads_lock, last_byte_more}
+use Rattle.tag.proofs.Reading.{after_slash, slash_after, reads_fault, reads_on, reads_lock, last_byte_more}
 use Rattle.tag.proofs.read.Goals as goal
 use Rattle.tag.proofs.read.Goals.{in-AfterSlash, in_default, else-matches-via-then-matches+else-ends_in_lock, else-matches-via-else-matches}
 
@@ -14,7 +14,7 @@ pub returns-in_err-step : goal.returns-in_err-step
 returns-in_err-step c =
     let p = err_from_is_err_and c.from_residual.result c.from_residual.ensures.1 in
     rw (p.1, p.2)
-    (reads_pair c.args.input.now c.loop-i.i _ (omega arith)
+    (reads_fault c.args.input.now c.loop-i.i _ (omega arith)
     (c.in_err-step.ensures.finds (last_byte (take c.loop-i.i c.args.input.now)) c.loop-i.invariant.0)
     ∙ c.loop-i.invariant.1)
 
@@ -31,7 +31,7 @@ returns-then-ends_in_lock c =
 pub loop-i-preserved : goal.loop-i-preserved
 loop-i-preserved c =
     let lt : c.loop-i.i < length c.args.input.now = omega arith in
-    let clear : allowed ≡ pair (last_byte (take c.loop-i.i c.args.input.now)) (get_or c.args.input.now c.loop-i.i 0) =
+    let clear : allowed ≡ fault_after (last_byte (take c.loop-i.i c.args.input.now)) (get_or c.args.input.now c.loop-i.i 0) =
     c.in_ok-step.ensures.finds (last_byte (take c.loop-i.i c.args.input.now)) c.loop-i.invariant.0 in
     let unlocked : get_or c.args.input.now c.loop-i.i 0 ≡ 47 → ends_in_lock (take c.loop-i.i c.args.input.now) ≡ false =
     elim c.else-matches.branch [

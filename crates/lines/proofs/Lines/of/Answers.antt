@@ -1,6 +1,6 @@
 -- The lines are those of the law.
-use Rattle.lines.proofs.Law.{lined}
+use Rattle.lines.proofs.Law.{are_lines}
 use Rattle.lines.proofs.Lines.of.Goals as goal
 
-pub returns-clause-law : goal.returns-clause-law
-returns-clause-law c = lined c.args.text.now
+pub returns-clause-lines : goal.returns-clause-lines
+returns-clause-lines c = are_lines c.args.text.now

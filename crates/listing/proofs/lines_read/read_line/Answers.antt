@@ -1,6 +1,6 @@
 use Rattle.std.proofs.Common.{◌≡◌, ℕ, ◌-◌, ◌≤◌, List, length, get_or, take, drop, Option, sym, refl, ap, ◌∙◌, rules}
 use Rattle.std.proofs.lemmas.List.{take_rest}
-use Rattle.claims.specs.Calls.{Call}
+use Rattle.register_model.specs.Calls.{Call}
 use Rattle.listing.specs.Reading.{call_by, read_line}
 use Rattle.listing.proofs.FirstBytes.{line_by, other_line, short_line, spaceless_line}
 use Rattle.listing.proofs.lines_read.read_line.Goals as goal

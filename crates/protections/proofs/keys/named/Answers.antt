@@ -1,4 +1,4 @@
--- The cursors' numbers are what the component and the name are told as.
+-- The cursors yield the numbers of the component and those of the name.
 use Rattle.std.proofs.Common.{◌∙◌}
 use Rattle.protections.proofs.Compared.{eq_from_lists}
 use Rattle.protections.proofs.keys.named.Goals as goal

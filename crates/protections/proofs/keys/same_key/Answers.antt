@@ -7,26 +7,26 @@ use Rattle.protections.proofs.keys.same_key.Goals.{then-is_none-via-then-is_none
 
 pub loop-number-preserved : goal.loop-number-preserved
 loop-number-preserved g c =
-    let set = g.P.Keyed.trailing c.args.protection.now in
+    let set = g.P.Keyed.ignored_at_end c.args.protection.now in
     c.loop-number.invariant
     ∙ passed set _ _ _ _ _ _ c.next-number.ensures.steps c.next-other.ensures.steps c.if-is_none.ensures c.if-ne.ensures
 
-pub returns-then-only_trailing : goal.returns-then-only_trailing
-returns-then-only_trailing g c =
-    let set = g.P.Keyed.trailing c.args.protection.now in
+pub returns-then-all_ignored_at_end : goal.returns-then-all_ignored_at_end
+returns-then-all_ignored_at_end g c =
+    let set = g.P.Keyed.ignored_at_end c.args.protection.now in
     let left = differ set _ _ _ _ _ _ c.next-number.ensures.steps c.next-other.ensures.steps (elim c.then-is_none.branch [
       | then-is_none-via-then-is_none w ↦ inl w.if-is_none.ensures
       | then-is_none-via-else-is_none+then-ne w ↦ inr w.if-ne.ensures
     ]) in
-    let both = c.only_trailing-then-only_trailing.ensures ∙ sym (c.loop-number.invariant ∙ left ∙ rw (← c.if-only_trailing.ensures)) in
+    let both = c.all_ignored_at_end-then-all_ignored_at_end.ensures ∙ sym (c.loop-number.invariant ∙ left ∙ rw (← c.if-all_ignored_at_end.ensures)) in
     decided _ _ _ (rw (c.new-left.ensures.key, c.new-right.ensures.key) both)
 
-pub returns-else-only_trailing : goal.returns-else-only_trailing
-returns-else-only_trailing g c =
-    let set = g.P.Keyed.trailing c.args.protection.now in
+pub returns-else-all_ignored_at_end : goal.returns-else-all_ignored_at_end
+returns-else-all_ignored_at_end g c =
+    let set = g.P.Keyed.ignored_at_end c.args.protection.now in
     let left = differ set _ _ _ _ _ _ c.next-number.ensures.steps c.next-other.ensures.steps (elim c.then-is_none.branch [
       | then-is_none-via-then-is_none w ↦ inl w.if-is_none.ensures
       | then-is_none-via-else-is_none+then-ne w ↦ inr w.if-ne.ensures
     ]) in
-    let both = c.if-only_trailing.false ∙ sym (c.loop-number.invariant ∙ left ∙ rw (← c.if-only_trailing.ensures)) in
+    let both = c.if-all_ignored_at_end.false ∙ sym (c.loop-number.invariant ∙ left ∙ rw (← c.if-all_ignored_at_end.ensures)) in
     decided _ _ _ (rw (c.new-left.ensures.key, c.new-right.ensures.key) both)

@@ -5,4 +5,4 @@ use Rattle.protections.proofs.keys.same_key.Given as goal
 
 abbrev pub invariant-loop-number : goal.invariant-loop-number
 invariant-loop-number g l =
-    let set = g.P.Keyed.trailing l.protection in Same set l.initial.left l.initial.right ≡ Same set l.left l.right
+    let set = g.P.Keyed.ignored_at_end l.protection in Same set l.initial.left l.initial.right ≡ Same set l.left l.right

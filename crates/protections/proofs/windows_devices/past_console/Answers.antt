@@ -1,17 +1,17 @@
 -- The first byte tells which name it can be.
 use Rattle.std.proofs.Common.{refl, arith, rules}
 use Rattle.std.proofs.lemmas.Bool.Decides.{nat_tests}
-use Rattle.protections.specs.Keys.{cut_name}
+use Rattle.protections.specs.NameEnds.{is_ended_key}
 use Rattle.protections.proofs.Devices.{console, console_in, console_out}
 use Rattle.protections.proofs.windows_devices.past_console.Goals as goal
 use Rattle.protections.proofs.windows_devices.past_console.Goals.{in_default-via-then-rest-lt1, in_default-via-else-rest-lt1+in_default-1}
 
 pub past_name-requires : goal.past_name-requires
-unfolding cut_name
+unfolding is_ended_key
 past_name-requires c = refl
 
 pub past_name-requires-in-111 : goal.past_name-requires-in-111
-unfolding cut_name
+unfolding is_ended_key
 past_name-requires-in-111 c = refl
 
 pub returns-in-105 : goal.returns-in-105

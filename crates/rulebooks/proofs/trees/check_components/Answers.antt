@@ -2,7 +2,7 @@
 use Rattle.std.proofs.Common.{◌≡◌, length, inl, ap, ◌∙◌, arith}
 use Rattle.std.proofs.lemmas.Result.{err_from_is_err_and}
 use Rattle.std.specs.Iterator.Adapters.{enumerate_count, enumerate_source}
-use Rattle.tag.specs.Parts.{parts_left}
+use Rattle.tag.specs.ComponentsLeft.{components_left}
 use Rattle.rulebooks.proofs.Paths.{leftmost_ends, leftmost_more, leftmost_refuses, length-components}
 use Rattle.rulebooks.proofs.trees.check_components.Goals as goal
 
@@ -12,7 +12,7 @@ loop-index-init-derived c =
     let turns = c.into_iter-index-iterator.result in
     let first : enumerate_count turns ≡ 0 = cc in
     let same : enumerate_source turns ≡ c.of.result = cc in
-    let all = ap parts_left same ∙ c.of.ensures in
+    let all = ap components_left same ∙ c.of.ensures.answer in
     let short = c.well_formed.0.1 in
     ((tt, tt, inl (omega (arith, ap length all, length-components c.args.path.now))), tt)
 
@@ -21,7 +21,7 @@ loop-index-init c =
     let turns = c.into_iter-index-iterator.result in
     let first : enumerate_count turns ≡ 0 = cc in
     let same : enumerate_source turns ≡ c.of.result = cc in
-    let all = ap parts_left same ∙ c.of.ensures in
+    let all = ap components_left same ∙ c.of.ensures.answer in
     cc
 
 pub loop-index-preserved : goal.loop-index-preserved

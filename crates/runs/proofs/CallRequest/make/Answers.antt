@@ -1,16 +1,21 @@
-use Rattle.std.proofs.Common.{◌∙◌}
-use Rattle.register.specs.Meanings.{meaning_in}
-use Rattle.register.specs.Registers.{entries_in}
-use Rattle.runs.proofs.Alike.{same_answer, same_entries}
+use Rattle.std.proofs.Common.{◌≡◌, refl, subst}
+use Rattle.register.specs.Registers.{IsMade}
+use Rattle.runs.specs.Listed.{change_of}
 use Rattle.runs.proofs.CallRequest.make.Goals as goal
 
 pub returns-in-Change : goal.returns-in-Change
 returns-in-Change g c =
-    let m = meaning_in g.R.Rulebook g.F.FileSystem c.args.register.now in
-    let es = entries_in c.args.register.now in
+    let mended = g.R.MendingRulebook.mended in
+    let before = c.args.register.now in
+    let made = c.make.ensures.made_alike mended in
     rw c.in-Change.is
     (record {
-      answer = c.make.ensures.answer ∙ same_answer m g.R.MendingRulebook.mended es c.in-Change.change;
-      entries = c.make.ensures.entries ∙ same_entries m g.R.MendingRulebook.mended es c.in-Change.change;
-      same_rules = c.make.ensures.same_rules;
+      made = made;
+      change = λ change e.
+          let same : c.in-Change.change ≡ change = cc in
+          subst (λ z. IsMade mended before c.make.new.register (change_of z) c.make.result) same made;
+      offer = λ text number e. cc;
+      call = λ a. refl;
+      mended = λ s. refl;
+      may_offer = refl;
     })

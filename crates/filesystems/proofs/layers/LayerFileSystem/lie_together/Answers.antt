@@ -1,6 +1,6 @@
 -- The two ways: equal keys, or together below.
 use Rattle.std.proofs.Common.{◌≡◌, Bool, true, false, ◌||◌, sym, ◌∙◌}
-use Rattle.filesystems.proofs.Same.{equals_decided}
+use Rattle.filesystems.proofs.Same.{bytes_eq-decided}
 use Rattle.filesystems.proofs.layers.LayerFileSystem.lie_together.Goals as goal
 
 -- The two ways through `x || y`.
@@ -11,8 +11,8 @@ either_second : (x y r s : Bool) → r ≡ x → r ≡ false → s ≡ y → s �
 either_second x y r s e t d = let f : x ≡ false = sym e ∙ t in d ∙ rw f
 
 pub returns-then-same_key : goal.returns-then-same_key
-returns-then-same_key g c = either_first _ _ _ (sym (equals_decided _ _ _ c.same_key.ensures)) c.if-same_key.true
+returns-then-same_key g c = either_first _ _ _ (sym (bytes_eq-decided _ _ _ c.same_key.ensures)) c.if-same_key.true
 
 pub returns-else-same_key : goal.returns-else-same_key
 returns-else-same_key g c =
-    either_second _ _ _ _ (sym (equals_decided _ _ _ c.same_key.ensures)) c.if-same_key.false c.lie_together.ensures
+    either_second _ _ _ _ (sym (bytes_eq-decided _ _ _ c.same_key.ensures)) c.if-same_key.false c.lie_together.ensures

@@ -2,19 +2,19 @@
 use Rattle.std.proofs.Common.{◌≡◌, not, ◌&&◌, map}
 use Rattle.std.specs.Option.{option_map}
 use Rattle.std.specs.Iterator.Adapters.{zip_first, zip_second}
-use Rattle.tag.specs.Parts.{parts_left}
+use Rattle.tag.specs.ComponentsLeft.{components_left}
 use Rattle.meetings.specs.Meeting.{meet, meet_parts}
-use Rattle.claims.specs.Calls.{left_out}
+use Rattle.register_model.specs.Calls.{left_aside}
 use Rattle.register.specs.Rows.{entry_of}
 use Rattle.register.proofs.Searching.{From}
 use Rattle.register.proofs.table.Table.first_meeting.Given as goal
 
 abbrev pub invariant-rows : goal.invariant-rows
 invariant-rows g l =
-    From (λ e. not (left_out (option_map (λ x. x.now) l.except) e.name) && meet (g.F.FileSystem.together l.files) e.name l.name)
+    From (λ e. not (left_aside (option_map (λ x. x.now) l.aside) e.name) && meet (g.F.FileSystem.together l.files) e.name l.name)
     (map entry_of l.row-items) l.place
 
 abbrev pub invariant-loop-x : goal.invariant-loop-x
 invariant-loop-x g l =
-    meet_parts (g.F.FileSystem.together l.files) (parts_left (zip_first l.x-iterator)) (parts_left (zip_second l.x-iterator))
-    ≡ meet_parts (g.F.FileSystem.together l.files) (parts_left (zip_first l.initial.x-iterator)) (parts_left (zip_second l.initial.x-iterator))
+    meet_parts (g.F.FileSystem.together l.files) (components_left (zip_first l.x-iterator)) (components_left (zip_second l.x-iterator))
+    ≡ meet_parts (g.F.FileSystem.together l.files) (components_left (zip_first l.initial.x-iterator)) (components_left (zip_second l.initial.x-iterator))

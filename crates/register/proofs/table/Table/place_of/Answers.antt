@@ -6,7 +6,7 @@ use Rattle.std.proofs.Math.ListN.{get_or-map}
 use Rattle.std.proofs.lemmas.Bool.Decides.{Decides-eqb, nat_tests, same_from_decides}
 use Rattle.std.proofs.lemmas.List.{length-map}
 use Rattle.std.proofs.lemmas.Slice.Eq.{bytes_eq-Decides, slice_eq-Decides}
-use Rattle.claims.specs.Entries.{place_of, slot}
+use Rattle.register_model.specs.Entries.{place_of, slot}
 use Rattle.register.specs.Rows.{entry_of}
 use Rattle.register.proofs.Placing.{placed, unplaced}
 use Rattle.register.proofs.table.Table.place_of.Goals as goal

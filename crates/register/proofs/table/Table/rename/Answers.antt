@@ -1,6 +1,6 @@
 -- The row is lent and written over, taken out, and put in at the place of its new name.
 use Rattle.std.proofs.Common.{get_or, map, sym, ap, ◌∙◌, subst}
-use Rattle.claims.specs.Entries.{put, slot}
+use Rattle.register_model.specs.Entries.{put, slot}
 use Rattle.std.specs.List.{remove}
 use Rattle.register.specs.Entries.{InOrder}
 use Rattle.register.specs.declared.table.Row.{Row}

@@ -1,7 +1,0 @@
-//! The program `names` again, for the input beside it: the longer list of a campus day, with every refusal that it can give.
-// A program is run on the one input beside it, so the other input has a program of its own.
-#![tactic(auto)]
-
-fn main(rt: HostRuntime) -> anyhow::Result<()> {
-    listing_io::run(&rt)
-}

@@ -1,9 +1,0 @@
--- The parts that an iterator over them has still to give.
-use Rattle.std.specs.Prelude.{List}
-use Rattle.characters.specs.declared.Part.{Part}
-use Rattle.characters.specs.Reader.{parts}
-use Rattle.characters.specs.declared.sequence.Characters.{Characters}
-
--- The parts of what is left of the byte string.
-abbrev pub parts_left : Characters → List Part
-parts_left c = parts c.rest.now

@@ -1,6 +1,0 @@
--- What a register keeps, answers and promises.
-pub mod Entries
-pub mod Calls
-pub mod Claim
-pub mod Words
-pub mod Histories
