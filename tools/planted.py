@@ -33,7 +33,7 @@ TURNED = [(' < ', ' <= '), (' <= ', ' < '), (' > ', ' >= '), (' >= ', ' > '), ('
           ('.first()', '.last()'), ('.last()', '.first()'), ('.take(', '.skip('), ('.skip(', '.take(')]
 WAIT = 240  # seconds for one check
 PROGRAMS = {'names', 'names_refused', 'names_at_limit', 'names_too_long', 'handles', 'handles_long', 'replay', 'samples_tried',
-            'listing_io', 'handling_io'}
+            'listing_io', 'handling_io', 'gushteral', 'tool_components', 'tool_paths', 'tool_meet'}
 
 
 def blanked(text):

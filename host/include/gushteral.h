@@ -1,11 +1,12 @@
-/* The seven calls of Gushteral for C: checks of Git's tag names, reference names and path components, and a mender of
-   partial reference names. They are in libc_names.a, which needs only memset beside it.
+/* The calls of Gushteral for C: checks of Git's tag names, reference names and path components, a mender of partial
+   reference names, a register of names, and the words of refusals. They are in libgushteral_c.a, which needs only
+   memcpy, memmove and memset beside it.
 
    For every call:
-   - `input` points to `length` bytes, which need not be text and may hold zero bytes. It is never NULL, also where
-     `length` is 0; it then may point anywhere.
-   - Nothing is allocated, kept or printed. The input is only read. Calls from several threads do not disturb each other
-     as long as no buffer is shared.
+   - A pointer and the length after it are a string of that many bytes, which need not be text and may hold zero bytes.
+     Where the length is 0 the pointer may be NULL. What is written to overlaps no other string of the call.
+   - Nothing is allocated, kept or printed. What is const is only read. Calls from several threads do not disturb each
+     other as long as no buffer is shared.
    - Each input has one answer; none is left out. */
 #ifndef GUSHTERAL_H
 #define GUSHTERAL_H
@@ -47,8 +48,23 @@ enum {
     GUSHTERAL_RELATIVE = 28          /* . or .. */
 };
 
-/* Why the mender refuses. */
+/* Why a call that writes a text refuses. */
 enum { GUSHTERAL_BUFFER_TOO_SHORT = 31 };
+
+/* Why a register, a list of declared pairs or a pile of protections refuses. Of these, the calls here answer 32, 41 and
+   42; all have words. */
+enum {
+    GUSHTERAL_TOO_LONG = 32,          /* a name or text for the register has more than 255 bytes */
+    GUSHTERAL_DECLARED_TOO_LONG = 33, /* a component of a declared pair has more than 32 bytes */
+    GUSHTERAL_TOO_MANY_LAYERS = 34,   /* a pile has more than 16 layers */
+    GUSHTERAL_MET = 41,               /* a kept name meets the new one */
+    GUSHTERAL_FULL = 42,              /* 128 names are kept */
+    GUSHTERAL_NOT_KEPT = 43,          /* the name to rename or remove is not kept */
+    GUSHTERAL_TOO_MANY_PAIRS = 44     /* 16 pairs are already declared */
+};
+
+/* A buffer of this length has room for the words of every refusal. */
+enum { GUSHTERAL_WORDS_ROOM = 128 };
 
 /* The answer of a check of names. */
 typedef struct {
@@ -56,11 +72,14 @@ typedef struct {
     uint32_t value;  /* the invalid byte for 1, else 0; the name that 13 refuses is the whole input */
 } GushteralNameAnswer;
 
-/* The answer of the mender. */
+/* The answer of a call that writes a text. */
 typedef struct {
     uint32_t number; /* 0, or 31 where the buffer is too short */
     size_t length;   /* the length of the text at the front of the buffer, 0 for 31 */
-} GushteralMendAnswer;
+} GushteralTextAnswer;
+
+/* The name of the mender's answer. */
+typedef GushteralTextAnswer GushteralMendAnswer;
 
 /* Whether the input is a tag name: refused by 1 to 11. */
 GushteralNameAnswer gushteral_tag_name(const uint8_t *input, size_t length);
@@ -76,10 +95,9 @@ GushteralNameAnswer gushteral_reference_branch_name(const uint8_t *input, size_t
 
 /* Writes the partial name to which the input is mended to the front of `out`, and answers its length. An allowed
    partial name stays as it is; the text is always an allowed one and never longer than the larger of 1 and `length`.
-   `out` points to `out_length` bytes, is never NULL and does not overlap the input. Where `out_length` is less than
-   the larger of 1 and `length`, the answer is 31 and no byte is written. Else the bytes after the text become zero up
-   to the larger of 1 and `length`, and later bytes stay as they were. No zero byte is put after a text that fills this
-   room. */
+   Where `out_length` is less than the larger of 1 and `length`, the answer is 31 and no byte is written. Else the bytes
+   after the text become zero up to the larger of 1 and `length`, and later bytes stay as they were. No zero byte is put
+   after a text that fills this room. */
 GushteralMendAnswer gushteral_reference_name_partial_or_sanitize(const uint8_t *input, size_t length,
                                                                  uint8_t *out, size_t out_length);
 
@@ -91,6 +109,21 @@ uint32_t gushteral_path_component(const uint8_t *input, size_t length,
 
 /* 1 where the component's device key is one of the listed names, as of CON or lpt1.txt, else 0. */
 uint8_t gushteral_path_component_is_windows_device(const uint8_t *input, size_t length);
+
+/* Enters names of `length` bytes each, one after another in `names`, into a register with no entry, and answers how many
+   it keeps. The register is one of partial names on HFS+ over NTFS, and of names that meet it keeps the first. As many
+   names are entered as there are bytes for answers; a rest shorter than `length` is left out, and where `length` is 0
+   there is no name. Each answer becomes 0 where its name is kept, else the number of the refusal: of a partial name, of
+   a component, or 32, 41 or 42. Later answers stay as they were. The register stands on the stack and takes about
+   70,000 bytes of it. */
+size_t gushteral_enter_all(const uint8_t *names, size_t names_length, size_t length,
+                           uint8_t *answers, size_t answers_length);
+
+/* Writes the words of the refusal by `number` to the front of `out`, and answers their length. `value` is the byte for
+   1, where it is below 256, and counts for no other number. A number that is no refusal has no words: the answer is 0
+   with length 0. Where `out_length` is less than the length of the words, the answer is 31 and no byte is written. Else
+   later bytes of `out` stay as they were; no zero byte is put after the words. */
+GushteralTextAnswer gushteral_refusal_text(uint32_t number, uint32_t value, uint8_t *out, size_t out_length);
 
 #ifdef __cplusplus
 }

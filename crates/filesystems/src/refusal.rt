@@ -20,7 +20,6 @@ impl DeclareError {
     }
 
     /// The refusal in plain words.
-    // `Display` writes these, and a contract states them; the error of a component has the same three items, with words of its own.
     pub fn text(&self) -> &'static str
         ensures { result.now ≡ text_of self.now }
     {

@@ -1,13 +1,14 @@
 //! The mender: makes a handle, an allowed partial name, of any bytes, in a caller's buffer.
 #![tactic(auto)]
 
-ghost use Rattle.std.specs.Prelude.{◌≡◌, ℕ, ◌-◌, List, ◌++◌, length, take, replicate, IfOk, ◌≢◌, option_to_list};
+ghost use Rattle.std.specs.Prelude.{◌≡◌, ℕ, ◌-◌, List, ◌++◌, Some, length, take, replicate, IfOk, ◌≢◌, option_to_list};
 ghost use Rattle.std.specs.Str.{byte};
 ghost use Rattle.tag.specs.Scanning.{after};
-ghost use Rattle.mending.specs.Errors.{number_of};
+ghost use Rattle.mending.specs.Errors.{number_of, text_of};
 ghost use Rattle.mending.specs.Mender.{buffer_after, length_or_error, mended, replacement, room};
 ghost use Rattle.mending.specs.Mends.{Mends};
 
+use std::fmt;
 use tag::components::Components;
 use tag::scanner::Scanner;
 use text::Text;
@@ -15,10 +16,9 @@ use text::Text;
 mod text;
 
 /// Why a text is not mended.
-#[derive(Clone, Copy, Debug, PartialEq, Eq, thiserror::Error)]
+#[derive(Clone, Copy, Debug, PartialEq, Eq)]
 pub enum Error {
     /// The buffer is shorter than the input, or has no byte.
-    #[error("the buffer must have as many bytes as the text, and at least one")]
     BufferTooShort = 31,
 }
 
@@ -29,7 +29,28 @@ impl Error {
     {
         *self as u8
     }
+
+    /// What the refusal says, in plain words.
+    pub fn text(&self) -> &'static str
+        ensures { result.now ≡ text_of self.now }
+    {
+        match *self {
+            Error::BufferTooShort =>
+                "the buffer must have as many bytes as the text, and at least one",
+        }
+    }
 }
+
+/// The text of the refusal.
+impl fmt::Display for Error {
+    ghost output = { λ e. Some (text_of e) };
+
+    fn fmt<W: fmt::Write>(&self, f: &mut fmt::Formatter<W>) -> fmt::Result {
+        f.write_str(self.text())
+    }
+}
+
+impl std::error::Error for Error {}
 
 /// What stands for the next byte of a component, if anything: a byte with no fault stays, a dot after a dot vanishes, and
 /// a byte with any other fault becomes a dash.

@@ -1,6 +1,10 @@
--- The answer of `component` as a number or none, and the words of its errors.
-use Rattle.std.specs.Prelude.{ℕ, List, Ok, Err, Some, None, Option, codes, Result}
+-- The answer of `component` as a number or none, and what its errors say.
+use Rattle.std.specs.Prelude.{ℕ, List, Ok, Err, Some, None, Option, Result}
 use Rattle.std.specs.Borrow.{Bor}
+use Rattle.words.specs.Texts as names
+use Rattle.words.specs.declared.names.NameRefusal.TheVariants.{EmptyComponent, RelativeComponent}
+use Rattle.protections.specs.Texts as verdicts
+use Rattle.protections.specs.declared.rules.Verdict.TheVariants as variants
 use Rattle.path.specs.declared.Error.{Error}
 use Rattle.path.specs.declared.Error.TheVariants.{Empty, PathSeparator, WindowsPathPrefix, WindowsReservedName, WindowsIllegalCharacter, DotGitDir, SymlinkedGitModules, Relative}
 
@@ -15,18 +19,16 @@ number_of DotGitDir = 26
 number_of SymlinkedGitModules = 27
 number_of Relative = 28
 
--- what is read out
+-- what an error says: the text of a verdict, or of a tree path's refusal
 abbrev pub text_of : Error → List ℕ
-text_of Empty = codes "the name is empty"
-text_of PathSeparator = codes "the name contains a slash or a backslash"
-text_of WindowsPathPrefix = codes "the name begins like a Windows drive, a character and a colon"
-text_of WindowsReservedName = codes "the name is reserved for a device on Windows"
-text_of WindowsIllegalCharacter =
-    codes "the name has a character that Windows does not allow, or ends in a dot or a space"
-text_of DotGitDir = codes "the name stands for .git, which belongs to Git"
-text_of SymlinkedGitModules =
-    codes "the name stands for .gitmodules, which may not be a symbolic link"
-text_of Relative = codes "the names . and .. mean a directory and the one above it"
+text_of Empty = names.text_of EmptyComponent
+text_of PathSeparator = verdicts.text_of variants.PathSeparator
+text_of WindowsPathPrefix = verdicts.text_of variants.WindowsPathPrefix
+text_of WindowsReservedName = verdicts.text_of variants.WindowsReservedName
+text_of WindowsIllegalCharacter = verdicts.text_of variants.WindowsIllegalCharacter
+text_of DotGitDir = verdicts.text_of variants.DotGitDir
+text_of SymlinkedGitModules = verdicts.text_of variants.SymlinkedGitModules
+text_of Relative = names.text_of RelativeComponent
 
 -- the number of the refusal, if the answer is one
 abbrev pub refusal_of : Result (Bor (List ℕ)) Error → Option ℕ

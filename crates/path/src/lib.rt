@@ -15,6 +15,7 @@ use protections::{
     Hfs, Ntfs, Plain, Protection, Verdict, WindowsDevices, WindowsNames, names_device,
 };
 use std::fmt;
+use words::NameRefusal;
 
 /// Why a component is refused.
 // The error keeps the ported crate's case names, a fixed form (docs/DECISIONS.md), so it has the six cases of a verdict and no case
@@ -33,23 +34,18 @@ pub enum Error {
 
 impl Error {
     /// The error in plain words.
-    // `Display` writes these, and a contract states them; the refusal of a pair has the same three items, with words of its own.
     pub fn text(&self) -> &'static str
         ensures { result.now ≡ text_of self.now }
     {
         match *self {
-            Error::Empty => "the name is empty",
-            Error::PathSeparator => "the name contains a slash or a backslash",
-            Error::WindowsPathPrefix =>
-                "the name begins like a Windows drive, a character and a colon",
-            Error::WindowsReservedName => "the name is reserved for a device on Windows",
-            Error::WindowsIllegalCharacter => {
-                "the name has a character that Windows does not allow, or ends in a dot or a space"
-            }
-            Error::DotGitDir => "the name stands for .git, which belongs to Git",
-            Error::SymlinkedGitModules =>
-                "the name stands for .gitmodules, which may not be a symbolic link",
-            Error::Relative => "the names . and .. mean a directory and the one above it",
+            Error::Empty => NameRefusal::EmptyComponent.text(),
+            Error::PathSeparator => Verdict::PathSeparator.text(),
+            Error::WindowsPathPrefix => Verdict::WindowsPathPrefix.text(),
+            Error::WindowsReservedName => Verdict::WindowsReservedName.text(),
+            Error::WindowsIllegalCharacter => Verdict::WindowsIllegalCharacter.text(),
+            Error::DotGitDir => Verdict::DotGitDir.text(),
+            Error::SymlinkedGitModules => Verdict::SymlinkedGitModules.text(),
+            Error::Relative => NameRefusal::RelativeComponent.text(),
         }
     }
 

@@ -1,9 +1,11 @@
 //! Verdicts on components, and what a protection is.
 ghost use Rattle.std.specs.Prelude.{◌≡◌, ℕ, Bool, if◌then◌else◌, List, Some, None, Option, bytes_eq};
+ghost use Rattle.protections.specs.Texts.{text_of};
 ghost use Rattle.protections.specs.Names.{git, modules};
 ghost use Rattle.protections.specs.Rules.{verdict_number, numbered, guarded, is_symlink};
 
 use crate::keys::{Keyed, named};
+use std::fmt;
 
 /// The kind of a path's last component, where it matters.
 #[derive(Clone, Copy, PartialEq, Eq, Debug)]
@@ -30,7 +32,35 @@ impl Verdict {
     {
         *self as u8
     }
+
+    /// What the verdict says, in plain words.
+    pub fn text(&self) -> &'static str
+        ensures { result.now ≡ text_of self.now }
+    {
+        match *self {
+            Verdict::PathSeparator => "the name contains a slash or a backslash",
+            Verdict::WindowsPathPrefix =>
+                "the name begins like a Windows drive, a character and a colon",
+            Verdict::WindowsReservedName => "the name is reserved for a device on Windows",
+            Verdict::WindowsIllegalCharacter =>
+                "the name has a character that Windows does not allow, or ends in a dot or a space",
+            Verdict::DotGitDir => "the name stands for .git, which belongs to Git",
+            Verdict::SymlinkedGitModules =>
+                "the name stands for .gitmodules, which may not be a symbolic link",
+        }
+    }
 }
+
+/// The text of the refusal.
+impl fmt::Display for Verdict {
+    ghost output = { λ v. Some (text_of v) };
+
+    fn fmt<W: fmt::Write>(&self, f: &mut fmt::Formatter<W>) -> fmt::Result {
+        f.write_str(self.text())
+    }
+}
+
+impl std::error::Error for Verdict {}
 
 /// A protection: a key, and a verdict on a component and its mode.
 pub trait Protection: Keyed {

@@ -1,18 +1,26 @@
 //! What each error of a reference name says, in plain words.
+ghost use Rattle.std.specs.Prelude.{◌≡◌, Some};
+ghost use Rattle.tag.specs.Words.{words_of};
+ghost use Rattle.reference.specs.Errors.{refusal};
+
 use super::Error;
 use std::fmt;
+use words::{Carried, Sentence};
 
-// The texts of eleven cases stand once, in tag: a derive would repeat them.
+/// The sentence of the refusal; that of an invalid byte names it.
 impl fmt::Display for Error<'_> {
+    ghost output = { λ e. Some (words_of (refusal e)) };
+
     fn fmt<W: fmt::Write>(&self, f: &mut fmt::Formatter<W>) -> fmt::Result {
-        match self {
-            Error::SomeLowercase => f.write_str(
-                "a name with no slash must be of capital letters and underscores, like HEAD",
-            ),
-            Error::Reserved(_) => f.write_str("this name is reserved"),
-            // Each other case is a tag name's.
-            _ => self.tag_error().map_or(Ok(()), |error| error.fmt(f)),
-        }
+        let carried = match self {
+            Error::InvalidByte(byte) => Carried::Byte(*byte),
+            _ => Carried::Nothing,
+        };
+        let sentence = Sentence {
+            text: words::text(self.number()),
+            carried,
+        };
+        sentence.fmt(f)
     }
 }
 

@@ -2,6 +2,7 @@
 pub mod Entries
 pub mod Rows
 pub mod Faults
+pub mod Words
 pub mod Meanings
 pub mod Registers
 pub mod Shown

@@ -32,8 +32,9 @@ module _ {R F : Type 0} {r : rulebook.Ghosts R} {f : interface.Ghosts F} where
     -- the answer, and why it is that
     pub answer : outcome_of result ≡ answer (meaning_in mended before) (state_in before) call
     pub because : Because (meaning_in mended before) (state_in before) call (outcome_of result)
-    -- the state that is left, in which the name stands at the place answered
+    -- the state that is left
     pub state : state_in after ≡ state_after (meaning_in mended before) (state_in before) call
+    -- which entry came or went at the place answered, and that all others stay
     pub placed :
         Placed (meaning_in mended before) (state_in before) (state_in after) call
         (outcome_of result)

@@ -1,11 +1,14 @@
 //! Why a register refuses a call: by its rulebook, by its file system, or by what it keeps.
-ghost use Rattle.std.specs.Prelude.{◌≡◌};
+ghost use Rattle.std.specs.Prelude.{◌≡◌, Some};
 ghost use Rattle.register_model.specs.Calls.{number_of};
 ghost use Rattle.register.specs.Faults.{fault_in, own_fault};
+ghost use Rattle.register.specs.Words.{state_text, state_words, words_of};
 ghost use Rattle.register.specs.declared.faults.Fault.TheVariants.{Rulebook, State};
 
 use protections::Verdict;
 use rulebooks::RulebookFault;
+use std::fmt;
+use words::{Carried, Sentence};
 
 /// Why the register itself refuses a call.
 #[derive(Clone, Copy, Debug, PartialEq, Eq)]
@@ -44,6 +47,18 @@ impl StateFault {
             StateFault::NotKept => 43,
         }
     }
+
+    /// What the refusal says, in plain words, without the place.
+    pub fn text(&self) -> &'static str
+        ensures { result.now ≡ state_text self.now }
+    {
+        match *self {
+            StateFault::TooLong => "a name or text for the register may have at most 255 bytes",
+            StateFault::Met { .. } => "a kept name meets this one",
+            StateFault::Full => "the register is full: it keeps 128 names",
+            StateFault::NotKept => "the name to rename or remove is not kept",
+        }
+    }
 }
 
 impl Fault {
@@ -58,6 +73,46 @@ impl Fault {
         }
     }
 }
+
+/// The sentence of the refusal; that of a name that meets a kept one tells the kept one's place.
+impl fmt::Display for StateFault {
+    ghost output = { λ s. Some (state_words s) };
+
+    fn fmt<W: fmt::Write>(&self, f: &mut fmt::Formatter<W>) -> fmt::Result {
+        let carried = match *self {
+            StateFault::Met { place } => Carried::Place(place),
+            _ => Carried::Nothing,
+        };
+        let sentence = Sentence {
+            text: self.text(),
+            carried,
+        };
+        sentence.fmt(f)
+    }
+}
+
+impl std::error::Error for StateFault {}
+
+/// The sentence of the refusal; that of a component tells its index.
+impl fmt::Display for Fault {
+    ghost output = { λ s. Some (words_of s) };
+
+    fn fmt<W: fmt::Write>(&self, f: &mut fmt::Formatter<W>) -> fmt::Result {
+        match *self {
+            Fault::Rulebook(fault) => fault.fmt(f),
+            Fault::Component { verdict, index } => {
+                let sentence = Sentence {
+                    text: verdict.text(),
+                    carried: Carried::Component(index),
+                };
+                sentence.fmt(f)
+            }
+            Fault::State(fault) => fault.fmt(f),
+        }
+    }
+}
+
+impl std::error::Error for Fault {}
 
 impl From<RulebookFault> for Fault {
     ghost from_gives = { λ f r. r ≡ Rulebook f };

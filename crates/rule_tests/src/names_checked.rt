@@ -145,17 +145,14 @@ fn buffers(rt: HostRuntime) {
 #[test]
 fn words_of_errors(rt: HostRuntime) -> Result<(), Fail> {
     let words: [(Error<'static>, &'static str); 15] = [
-        (
-            Error::InvalidByte(0),
-            "the byte 0x00 may not stand in a name",
-        ),
+        (Error::InvalidByte(0), "a name may not have this byte: 0x00"),
         (
             Error::InvalidByte(b' '),
-            "the byte 0x20 may not stand in a name",
+            "a name may not have this byte: 0x20",
         ),
         (
             Error::InvalidByte(0x80),
-            "the byte 0x80 may not stand in a name",
+            "a name may not have this byte: 0x80",
         ),
         (Error::StartsWithSlash, "a name may not start with a slash"),
         (

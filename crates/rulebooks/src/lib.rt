@@ -13,6 +13,7 @@ ghost use Rattle.rulebooks.specs.Rulings.{IsValueFor, ruling};
 
 mod manual;
 pub mod names;
+mod told;
 pub mod trees;
 
 pub use manual::{ManualRulebook, ask_by_manual};

@@ -8,5 +8,6 @@ pub mod Splits
 pub mod Names
 pub mod Refusals
 pub mod Errors
+pub mod Words
 pub mod Manual
 pub mod Scanning

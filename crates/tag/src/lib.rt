@@ -1,7 +1,7 @@
 //! Tag names: the check, its errors, and the scanner that reads a name byte by byte.
 #![tactic(auto)]
 
-ghost use Rattle.std.specs.Prelude.{◌≡◌, ◌↔◌, [], is_ok, IfOk, IsTrue};
+ghost use Rattle.std.specs.Prelude.{◌≡◌, ◌↔◌, [], Some, is_ok, IfOk, IsTrue};
 ghost use Rattle.tag.specs.Answers.{Answer, IsFirst, Value, number_of};
 ghost use Rattle.tag.specs.Bytes.{ends_in_lock};
 ghost use Rattle.tag.specs.Components.{AreComponents, components};
@@ -9,37 +9,29 @@ ghost use Rattle.tag.specs.Errors.{answer_of, refusal};
 ghost use Rattle.tag.specs.Manual.{Rules};
 ghost use Rattle.tag.specs.Names.{closing, opening, reads, tag_name};
 ghost use Rattle.tag.specs.Refusals.{Applies};
+ghost use Rattle.tag.specs.Words.{words_of};
 
 use scanner::Scanner;
+use std::fmt;
+use words::{Carried, Sentence};
 
 pub mod components;
 pub mod scanner;
 pub mod splits;
 
 /// Why a tag name is refused. The cases keep the numbers 1 to 11, in this order.
-#[derive(Clone, Copy, Debug, PartialEq, Eq, thiserror::Error)]
+#[derive(Clone, Copy, Debug, PartialEq, Eq)]
 pub enum Error {
-    #[error("the byte 0x{0:02x} may not stand in a name")]
     InvalidByte(u8),
-    #[error("a name may not start with a slash")]
     StartsWithSlash,
-    #[error("a name may not have two slashes in a row")]
     RepeatedSlash,
-    #[error("a name may not have two dots in a row")]
     RepeatedDot,
-    #[error("no part of a name may end in .lock")]
     LockFileSuffix,
-    #[error("a name may not have an at sign before an opening brace")]
     ReflogPortion,
-    #[error("a name may not have an asterisk")]
     Asterisk,
-    #[error("no part of a name may start with a dot")]
     StartsWithDot,
-    #[error("a name may not end with a dot")]
     EndsWithDot,
-    #[error("a name may not end with a slash")]
     EndsWithSlash,
-    #[error("a name may not be empty")]
     Empty,
 }
 
@@ -64,6 +56,25 @@ impl Error {
         }
     }
 }
+
+/// The sentence of the refusal; that of an invalid byte names it.
+impl fmt::Display for Error {
+    ghost output = { λ e. Some (words_of (refusal e)) };
+
+    fn fmt<W: fmt::Write>(&self, f: &mut fmt::Formatter<W>) -> fmt::Result {
+        let carried = match self {
+            Error::InvalidByte(byte) => Carried::Byte(*byte),
+            _ => Carried::Nothing,
+        };
+        let sentence = Sentence {
+            text: words::text(self.number()),
+            carried,
+        };
+        sentence.fmt(f)
+    }
+}
+
+impl std::error::Error for Error {}
 
 /// Whether the last five bytes are `.lock`.
 pub fn ends_in_lock(bytes: &[u8]) -> bool

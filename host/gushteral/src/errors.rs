@@ -1,4 +1,5 @@
 //! Why a name, a buffer or a component is refused, with the number of each refusal.
+use crate::{WORDS_ROOM, refusal_text};
 use std::fmt;
 
 /// Why bytes are no tag name.
@@ -80,7 +81,8 @@ pub enum ComponentError {
     Relative,
 }
 
-/// 31: the mender's buffer has fewer bytes than the larger of 1 and the input's length.
+/// 31: the buffer has no room for the text. The mender's has room where it has as many bytes as the larger of 1 and the
+/// input's length.
 #[derive(Clone, Copy, Debug, PartialEq, Eq)]
 pub struct BufferTooShort;
 
@@ -153,6 +155,12 @@ impl BufferTooShort {
     }
 }
 
+/// Writes the words of a refusal, as the library has them.
+fn write_words(f: &mut fmt::Formatter<'_>, number: u32, byte: Option<u8>) -> fmt::Result {
+    let mut buf = [0; WORDS_ROOM];
+    f.write_str(refusal_text(number, byte, &mut buf).map_err(|_| fmt::Error)?)
+}
+
 impl fmt::Display for TagError {
     fn fmt(&self, f: &mut fmt::Formatter<'_>) -> fmt::Result {
         ReferenceError::from(*self).fmt(f)
@@ -161,42 +169,23 @@ impl fmt::Display for TagError {
 
 impl fmt::Display for ReferenceError<'_> {
     fn fmt(&self, f: &mut fmt::Formatter<'_>) -> fmt::Result {
-        f.write_str(match self {
-            ReferenceError::InvalidByte(byte) => return write!(f, "no name may hold the byte 0x{byte:02X}"),
-            ReferenceError::StartsWithSlash => "the name starts with a slash",
-            ReferenceError::RepeatedSlash => "the name has two slashes in a row",
-            ReferenceError::RepeatedDot => "the name has two dots in a row",
-            ReferenceError::LockFileSuffix => "a component of the name ends in .lock",
-            ReferenceError::ReflogPortion => "the name has @{",
-            ReferenceError::Asterisk => "the name has an asterisk",
-            ReferenceError::StartsWithDot => "a component of the name starts with a dot",
-            ReferenceError::EndsWithDot => "the name ends with a dot",
-            ReferenceError::EndsWithSlash => "the name ends with a slash",
-            ReferenceError::Empty => "the name is empty",
-            ReferenceError::SomeLowercase => "a name without a slash has only capital letters and underscores",
-            ReferenceError::Reserved(name) => return write!(f, "the name {} is reserved", name.escape_ascii()),
-        })
+        let byte = match self {
+            ReferenceError::InvalidByte(byte) => Some(*byte),
+            _ => None,
+        };
+        write_words(f, self.number(), byte)
     }
 }
 
 impl fmt::Display for ComponentError {
     fn fmt(&self, f: &mut fmt::Formatter<'_>) -> fmt::Result {
-        f.write_str(match self {
-            ComponentError::Empty => "the component is empty",
-            ComponentError::PathSeparator => "the component has a path separator",
-            ComponentError::WindowsPathPrefix => "the component starts with a drive letter",
-            ComponentError::WindowsReservedName => "the component is a device of Windows",
-            ComponentError::WindowsIllegalCharacter => "the component has a character that Windows forbids there",
-            ComponentError::DotGitDir => "the component stands for .git",
-            ComponentError::SymlinkedGitModules => "the component is a symbolic link that stands for .gitmodules",
-            ComponentError::Relative => "the component is . or ..",
-        })
+        write_words(f, self.number(), None)
     }
 }
 
 impl fmt::Display for BufferTooShort {
     fn fmt(&self, f: &mut fmt::Formatter<'_>) -> fmt::Result {
-        f.write_str("the buffer is shorter than the input, or empty")
+        write_words(f, self.number(), None)
     }
 }
 

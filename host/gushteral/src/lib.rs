@@ -1,5 +1,5 @@
-//! Checks of Git's tag names, reference names and path components, and a mender of partial names: safe Rust over the
-//! proved static library `libc_names.a`.
+//! Checks of Git's tag names, reference names and path components, a mender of partial names, a register of names that
+//! keeps no two that meet, and the words of refusals: safe Rust over the proved static library `libgushteral_c.a`.
 #![deny(missing_docs)]
 
 mod errors;
@@ -54,7 +54,7 @@ fn tag_error(answer: raw::NameAnswer) -> Option<TagError> {
 /// The result of a check of reference names on `input`.
 #[inline]
 fn reference_check(check: raw::NameCheck, input: &[u8]) -> Result<&[u8], ReferenceError<'_>> {
-    // SAFETY: the pointer of a slice is not null and is good for its length; the library keeps neither.
+    // SAFETY: the pointer of a slice is good for its length; the library keeps neither.
     let answer = unsafe { check(input.as_ptr(), input.len()) };
     match answer.number {
         12 => Err(ReferenceError::SomeLowercase),
@@ -66,7 +66,7 @@ fn reference_check(check: raw::NameCheck, input: &[u8]) -> Result<&[u8], Referen
 /// The input itself, if it is a tag name.
 #[inline]
 pub fn tag_name(input: &[u8]) -> Result<&[u8], TagError> {
-    // SAFETY: the pointer of a slice is not null and is good for its length; the library keeps neither.
+    // SAFETY: the pointer of a slice is good for its length; the library keeps neither.
     let answer = unsafe { raw::gushteral_tag_name(input.as_ptr(), input.len()) };
     tag_error(answer).map_or(Ok(input), Err)
 }
@@ -95,7 +95,7 @@ pub fn reference_branch_name(input: &[u8]) -> Result<&[u8], ReferenceError<'_>> 
 /// `buf` is shorter than that, the call is refused and all of `buf` stays.
 #[inline]
 pub fn reference_name_partial_or_sanitize<'b>(input: &[u8], buf: &'b mut [u8]) -> Result<&'b mut [u8], BufferTooShort> {
-    // SAFETY: the pointers of slices are not null and are good for their lengths, and a mutable one overlaps no other.
+    // SAFETY: the pointers of slices are good for their lengths, and a mutable one overlaps no other.
     let answer = unsafe {
         raw::gushteral_reference_name_partial_or_sanitize(input.as_ptr(), input.len(), buf.as_mut_ptr(), buf.len())
     };
@@ -109,7 +109,7 @@ pub fn reference_name_partial_or_sanitize<'b>(input: &[u8], buf: &'b mut [u8]) -
 #[inline]
 pub fn path_component(input: &[u8], mode: Option<Mode>, options: Options) -> Result<&[u8], ComponentError> {
     let link = mode == Some(Mode::Symlink);
-    // SAFETY: the pointer of a slice is not null and is good for its length; the library keeps neither.
+    // SAFETY: the pointer of a slice is good for its length; the library keeps neither.
     let number = unsafe {
         raw::gushteral_path_component(
             input.as_ptr(),
@@ -137,11 +137,48 @@ pub fn path_component(input: &[u8], mode: Option<Mode>, options: Options) -> Res
 /// Whether the component's device key is one of the listed names, as of `CON` or `lpt1.txt`.
 #[inline]
 pub fn path_component_is_windows_device(input: &[u8]) -> bool {
-    // SAFETY: the pointer of a slice is not null and is good for its length; the library keeps neither.
+    // SAFETY: the pointer of a slice is good for its length; the library keeps neither.
     unsafe { raw::gushteral_path_component_is_windows_device(input.as_ptr(), input.len()) != 0 }
 }
 
-/// The examples of README.md are run with the tests.
+/// Enters names of `length` bytes each, as they lie one after another in `names`, into a register with no entry, and
+/// answers how many it keeps.
+///
+/// The register is one of partial names on HFS+ over NTFS: a name is refused that is no partial name, that these file
+/// systems take for one of Git's own, or that meets a name that is kept. As many names are entered as `answers` has
+/// bytes; a rest of `names` that is shorter than `length` is left out, and where `length` is 0 there is no name. Each
+/// answer becomes 0 where its name is kept, and else the number of the refusal; later ones stay.
+#[inline]
+pub fn enter_all(names: &[u8], length: usize, answers: &mut [u8]) -> usize {
+    // SAFETY: the pointers of slices are good for their lengths, and a mutable one overlaps no other.
+    unsafe { raw::gushteral_enter_all(names.as_ptr(), names.len(), length, answers.as_mut_ptr(), answers.len()) }
+}
+
+/// A buffer of this length has room for the words of every refusal.
+pub const WORDS_ROOM: usize = 128;
+
+/// Writes the words of a refusal to the front of `buf`, and answers that part of it: what the number says, and for 1 the
+/// byte where it is given.
+///
+/// A number that is no refusal has no words. Later bytes of `buf` stay; where it is shorter than the words, the call is
+/// refused and all of `buf` stays.
+#[inline]
+pub fn refusal_text(number: u32, byte: Option<u8>, buf: &mut [u8]) -> Result<&str, BufferTooShort> {
+    // A value above 255 is no byte.
+    let value = byte.map_or(u32::MAX, u32::from);
+    // SAFETY: the pointer of a slice is good for its length; the library keeps neither.
+    let answer = unsafe { raw::gushteral_refusal_text(number, value, buf.as_mut_ptr(), buf.len()) };
+    match answer.number {
+        0 => Ok(str::from_utf8(&buf[..answer.length]).expect("the words of refusals are ASCII")),
+        _ => Err(BufferTooShort),
+    }
+}
+
+/// The examples of the README files are run with the tests.
 #[cfg(doctest)]
-#[doc = include_str!("../README.md")]
-struct Readme;
+mod readmes {
+    #[doc = include_str!("../README.md")]
+    struct Wrapper;
+    #[doc = include_str!("../../../README.md")]
+    struct Repository;
+}

@@ -1,5 +1,5 @@
 //! Holds the port's answers against those of the program in plain Rust.
-use crate::{plain, port};
+use crate::plain;
 
 const SEED: u64 = 0x6775_7368_7465_7261;
 
@@ -32,7 +32,7 @@ impl Random {
 pub fn same(names: &[u8], length: usize) -> Result<(), String> {
     let count = names.len() / length;
     let (mut ports, mut plains) = (vec![0xFF; count], vec![0xFF; count]);
-    let kept = port::enter_all(names, length, &mut ports);
+    let kept = gushteral::enter_all(names, length, &mut ports);
     let kept_plainly = plain::enter_all(names, length, &mut plains);
     for ((name, port), plain) in names.chunks_exact(length).zip(ports).zip(plains) {
         if port != plain {

@@ -2,7 +2,6 @@
 //! in Markdown. Ends with status 1 where the two do not answer the same.
 mod check;
 mod plain;
-mod port;
 
 use std::hint::black_box;
 use std::process::ExitCode;
@@ -93,7 +92,7 @@ fn cell(port: f64, plain: f64) -> String {
 /// Times one shape.
 fn line(shape: &Shape) -> String {
     let names = shape.names(CAPACITY);
-    let (port, port_last) = measure(port::enter_all, &names, shape.length);
+    let (port, port_last) = measure(gushteral::enter_all, &names, shape.length);
     let (plain, plain_last) = measure(plain::enter_all, &names, shape.length);
     format!("| {} | {} | {} |", shape.title, cell(port, plain), cell(port_last, plain_last))
 }

@@ -1,2 +1,0 @@
--- The definitions that the contracts of lists of names cite.
-pub mod Batch

@@ -1,0 +1,3 @@
+-- The lemmas that the proofs share.
+pub mod Placed
+pub mod InTurn

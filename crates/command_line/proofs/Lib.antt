@@ -1,0 +1,2 @@
+-- The lemmas on the command line.
+pub mod Pairs

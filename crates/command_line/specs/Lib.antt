@@ -1,0 +1,3 @@
+-- The definitions that the contracts of the command line cite.
+pub mod Flags
+pub mod Words

@@ -1,0 +1,4 @@
+-- The definitions that the contracts of the explanations cite.
+pub mod Numbers
+pub mod Remedies
+pub mod Texts

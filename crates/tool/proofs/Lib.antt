@@ -1,0 +1,3 @@
+-- The lemmas that the proofs share.
+mod Pairs
+mod Texts

@@ -1,0 +1,2 @@
+-- The lemmas on the names that a task is asked of.
+pub mod Given

@@ -1,0 +1,3 @@
+-- The definitions that the contracts of the answers cite.
+pub mod Answers
+pub mod Names

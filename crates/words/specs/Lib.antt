@@ -1,0 +1,4 @@
+-- The definitions that the contracts of the words of refusals cite.
+pub mod Numbers
+pub mod Sentences
+pub mod Texts
