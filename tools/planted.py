@@ -201,7 +201,7 @@ def main():
     if args.edits:
         bugs = [Written(edit) for name in names for edit in sorted((root / 'tools/edits' / name).glob('*.edit')) if args.only in edit.name]
     else:
-        bugs = [Bug(name, file.relative_to(root), *edit) for name in names for file in sorted((root / 'crates' / name / 'src').rglob('*.rt'))
+        bugs = [Bug(name, file.relative_to(root), *edit) for name in names for file in sorted((root / 'crates' / name / 'src').rglob('*.rt')) if file.name != 'tests.rt'
                 for edit in edits(file.read_text()) if args.only in edit[0]]
     known = {}
     if args.kept and args.kept.exists():
