@@ -178,6 +178,18 @@ module _ (together : List ℕ → List ℕ → Bool) where
     pub meets_turned : (x y : List ℕ) → Meets together x y → Meets together y x
     meets_turned x y m = meets_from y x (met_turned (meets_to x y m))
 
+    -- So the test gives the same whichever name comes first.
+    pub meet_turned : (x y : List ℕ) → meet together x y ≡ meet together y x
+    meet_turned x y =
+        let there = meet_decides x y in
+        let back = meet_decides y x in
+        go (meet together x y) (meet together y x) (λ t. back.1 (meets_turned x y (there.0 t))) (λ t. there.1 (meets_turned y x (back.0 t)))
+      where
+        go : (a b : Bool) → (a ≡ true → b ≡ true) → (b ≡ true → a ≡ true) → a ≡ b
+        go true b f g = sym (f refl)
+        go false true f g = g refl
+        go false false f g = refl
+
   module _ (key : List ℕ → List ℕ) (law : (a b : List ℕ) → key a ≡ key b → together a b ≡ true) where
     met_keys : (xs ys rest : List (List ℕ)) → map key ys ≡ map key xs ++ rest → Met xs ys
     met_keys [] ys rest e = left_ends

@@ -74,8 +74,10 @@ impl<R: Rulebook, F: FileSystem> Register<R, F> {
             ≡ name_fault (meaning_of R.Rulebook mended F.FileSystem self.now.files) name.now mode }
         ensures name { IfOk result (λ kept. kept.items ≡ name.now) }
     {
-        let kept = kept_name(name)?;
+        // Before the name is copied: one that its length or the rulebook refuses is not.
+        check_length(name)?;
         ask(&self.rules, name)?;
+        let kept = kept_name(name)?;
         check_components(&self.files, &kept, mode)?;
         Ok(kept)
     }

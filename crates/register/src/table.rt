@@ -147,8 +147,8 @@ impl Table {
             ≡ first_meeting (F.FileSystem.together files.now) (option_map (λ x. x.now) aside.entry)
             name.now self.now }
     {
-        // A fixed form, docs/DECISIONS.md: a search in nested loops that are left by label. So the loop over the components, which is
-        // that of `meetings::meets`, stands here again.
+        // A fixed form, docs/DECISIONS.md: a search in nested loops that are left by label. So a loop over the components stands here
+        // too, as in `meetings::meets`, but with the kept name always first, since it is short.
         'search: {
             'rows: for (place, row) in self.rows.iter().enumerate() {
                 let old = row.name.as_slice();

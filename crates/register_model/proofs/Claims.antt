@@ -5,6 +5,7 @@ use Rattle.std.proofs.lemmas.Bool.{both_ways, cases_Bool}
 use Rattle.tag.proofs.Members.{Among}
 use Rattle.tag.proofs.Members.{all_from_each, among_contains, contains_among, each_from_all}
 use Rattle.protections.specs.declared.rules.Mode.{Mode}
+use Rattle.filesystems.specs.Keys.{Key}
 use Rattle.meetings.specs.Meeting.{Meets, meet}
 use Rattle.meetings.proofs.Meetings.{meet_decides, meets_turned, starts_meets}
 use Rattle.register_model.specs.Entries.{Entry, new_entry}
@@ -64,12 +65,15 @@ pairwise_from R (x ∷ xs) f = (
   pairwise_from R xs (λ p q r y z e. f (x ∷ p) q r y z (ap (λ t. x ∷ t) e)),
 )
 
-module _ (m : Meaning) (lawful : Lawful m) where
+-- The laws of file systems that the claim needs.
+module _ (m : Meaning)
+    (symmetric : (a b : List ℕ) → m.together a b ≡ true → m.together b a ≡ true)
+    (equal_keys_together : (key : Key) (a b : List ℕ) → Contains m.keys key → key a ≡ key b → m.together a b ≡ true) where
   -- A run from no entries leaves the entries of its tally.
   ran_sound : {ds : List Done} {s : State} → Ran m no_entries ds s → Sound m s.kept (tally m ds).kept
   unfolding tally
   ran_sound start = record { orderly = tt; few = omega arith; fit = tt; put_in = λ e k. k; no_more = λ e k. k; as_many = refl; unique = tt }
-  ran_sound (next {ds} {s} r c o after a l) = rw (l, a) (step m lawful.symmetric s (tally m ds) (ran_sound r) c)
+  ran_sound (next {ds} {s} r c o after a l) = rw (l, a) (step m symmetric s (tally m ds) (ran_sound r) c)
 
   module _ (es t : Kept) (sound : Sound m es t) where
     -- Two entries at different places are in order, and do not meet.
@@ -93,10 +97,10 @@ module _ (m : Meaning) (lawful : Lawful m) where
     sound_apart = record {
       no_two_meet = no_two;
       no_key_list_begins = λ key k p q r d e s.
-          let law : (a b : List ℕ) → key a ≡ key b → m.together a b ≡ true = λ a b. lawful.equal_keys_together key a b k in (
+          let law : (a b : List ℕ) → key a ≡ key b → m.together a b ≡ true = λ a b. equal_keys_together key a b k in (
             λ b. no_two p q r d e s (starts_meets m.together key law d.name e.name b),
             λ b. no_two p q r d e s
-                (meets_turned m.together lawful.symmetric e.name d.name (starts_meets m.together key law e.name d.name b)),
+                (meets_turned m.together symmetric e.name d.name (starts_meets m.together key law e.name d.name b)),
           );
     }
 
@@ -130,14 +134,6 @@ module _ (m : Meaning) (lawful : Lawful m) where
         unique = unmet_unique m s.kept orderly;
       }
 
-  -- It holds of a register with no entry, and stays with every call.
-  pub holds_first : Holds m no_entries
-  unfolding tally
-  holds_first = sound_holds no_entries [] (ran_sound start)
-
-  pub holds_after : (s : State) → Holds m s → (c : Call) → Holds m (state_after m s c)
-  holds_after s h c = sound_holds (state_after m s c) _ (step m lawful.symmetric s s (holds_sound s h) c)
-
   module _ {ds : List Done} {s : State} (ran : Ran m no_entries ds s) where
     -- A call of the run was answered for its reason, and the entries were sound with the tally then.
     reason_at : (c : Call) (o : Outcome) (earlier : List Done) → Answered ds c o earlier
@@ -165,12 +161,25 @@ module _ (m : Meaning) (lawful : Lawful m) where
     offers_by_laws mending text n o earlier a l =
         let r = reason_at (offer text n) o earlier a in offer_exact m r.0.kept (tally m earlier).kept r.1 text r.2 l mending
 
+module _ (m : Meaning) (lawful : Lawful m) where
+  -- What holds of every register holds of one with no entry, and stays with every call.
+  pub holds_first : Holds m no_entries
+  unfolding tally
+  holds_first =
+      sound_holds m lawful.symmetric lawful.equal_keys_together no_entries []
+      (ran_sound m lawful.symmetric lawful.equal_keys_together start)
+
+  pub holds_after : (s : State) → Holds m s → (c : Call) → Holds m (state_after m s c)
+  holds_after s h c =
+      sound_holds m lawful.symmetric lawful.equal_keys_together (state_after m s c) _
+      (step m lawful.symmetric s s (holds_sound m lawful.symmetric lawful.equal_keys_together s h) c)
+
 pub claim : (m : Meaning) → Lawful m → (first : State) (ds : List Done) (s : State) → Ran m first ds s → first ≡ no_entries → Claim m ds s
-claim m lawful first ds s ran e = claim_by_laws m lawful (subst (λ z. Ran m z ds s) e ran)
+claim m lawful first ds s ran e = claim_by_laws m lawful.symmetric lawful.equal_keys_together (subst (λ z. Ran m z ds s) e ran)
 
 pub offers_exact : (m : Meaning) → Lawful m → MendingLaws m.ruling m.mended → (first : State) (ds : List Done) (s : State) → Ran m first ds s → first ≡ no_entries
     → OffersExact m ds
-offers_exact m lawful mending first ds s ran e = offers_by_laws m lawful (subst (λ z. Ran m z ds s) e ran) mending
+offers_exact m lawful mending first ds s ran e = offers_by_laws m lawful.symmetric lawful.equal_keys_together (subst (λ z. Ran m z ds s) e ran) mending
 
 -- The offers of every run.
 pub offers : (m : Meaning) → MendingLaws m.ruling m.mended → (first : State) (ds : List Done) (s : State) → Ran m first ds s → OffersClaim m ds

@@ -6,12 +6,13 @@ use Rattle.std.specs.List.{Contains}
 use Rattle.tag.proofs.Members.{among_at, among_contains, contains_among}
 use Rattle.tag.specs.Answers.Answer.{allowed, refused}
 use Rattle.protections.specs.declared.rules.Mode.{Mode}
-use Rattle.register_model.specs.Calls.{Fault, Kept, Meaning, Outcome}
+use Rattle.register_model.specs.Calls.{Fault, Kept, Meaning, Outcome, offering}
 use Rattle.register_model.specs.Calls.Fault.{by_rulebook}
 use Rattle.register_model.specs.Calls.Outcome.{declined}
 use Rattle.register_model.specs.Claim.{HasVerdict, MendingLaws, was_accepted}
 use Rattle.register_model.specs.Reasons.{Enters, IsFit, IsNamed, IsUnfit, MeetsFirst, NoneMeets, NoneNamed, Offers, Removes, Renames, SomeMeets}
 use Rattle.register_model.specs.declared.TheConstants.{CAPACITY, LONGEST_NAME}
+use Rattle.register_model.proofs.Becauses.{offer_because}
 use Rattle.register_model.proofs.Steps.{named_among}
 use Rattle.register_model.proofs.Tallies.{Sound}
 use Rattle.register_model.proofs.Verdicts.{verdict_not_passed}
@@ -93,7 +94,7 @@ module _ (m : Meaning) (es t : Kept) (sound : Sound m es t) where
   offer_exact text (Offers.mended k why) l mending =
       enter_allowed (m.mended text) None why (omega (arith, mending.no_longer text, l)) (mending.always_allowed text)
 
--- An offer is not refused by the rulebook.
+-- An enter of a name that the rulebook allows is not refused by the rulebook.
 enter_pass : {m : Meaning} {es : Kept} {x : List ℕ} {mode : Option Mode} {o : Outcome} → Enters m es x mode o → m.ruling x ≡ allowed
     → (k n v : ℕ) → o ≡ declined (by_rulebook k n v) → ⊥
 enter_pass (Enters.unfit (IsUnfit.too_long l)) a k n v e = cc
@@ -103,7 +104,18 @@ enter_pass (Enters.met f first) a k n v e = cc
 enter_pass (Enters.full f none full) a k n v e = cc
 enter_pass (Enters.entered f none room) a k n v e = cc
 
+-- Nor is an offer whose mended text the rulebook allows, from the reason for its answer.
+pub offer_spared : {m : Meaning} {es : Kept} {text : List ℕ} {o : Outcome} → Offers m es text o → m.ruling (m.mended text) ≡ allowed
+    → (k n v : ℕ) → o ≡ declined (by_rulebook k n v) → ⊥
+offer_spared (Offers.too_long l) a k n v e = cc
+offer_spared (Offers.mended l why) a k n v e = enter_pass why a k n v e
+
+-- The same of what an offer answers.
+pub offering_spared : (m : Meaning) (es : Kept) (text : List ℕ) → m.ruling (m.mended text) ≡ allowed
+    → (k n v : ℕ) → offering m es text ≡ declined (by_rulebook k n v) → ⊥
+offering_spared m es text a = offer_spared (offer_because m es text) a
+
+-- So no offer is, where the rulebook mends.
 pub offer_pass : {m : Meaning} {es : Kept} {text : List ℕ} {o : Outcome} → Offers m es text o → MendingLaws m.ruling m.mended
     → (k n v : ℕ) → o ≡ declined (by_rulebook k n v) → ⊥
-offer_pass (Offers.too_long l) mending k n v e = cc
-offer_pass {text = text} (Offers.mended l why) mending k n v e = enter_pass why (mending.always_allowed text) k n v e
+offer_pass {text = text} why mending = offer_spared why (mending.always_allowed text)

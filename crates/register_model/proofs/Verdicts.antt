@@ -20,6 +20,11 @@ no_first : (v : Option ℕ) (i : ℕ) (next : Option Fault) → or_else v i next
 no_first (Some n) i next e = cc
 no_first None i next e = (refl, e)
 
+-- Where it can be no fault, it is none.
+none_unless : (o : Option Fault) → ((f : Fault) → o ≡ Some f → ⊥) → o ≡ None
+none_unless (Some f) n = absurd (n f refl)
+none_unless None n = refl
+
 -- A list that is not empty has a last element.
 with_last : {X : Type 0} (xs : List X) → (xs ≡ [] → ⊥) → (front : List X) × (last : X) × (xs ≡ front ++ last ∷ [])
 with_last [] n = absurd (n refl)
@@ -88,7 +93,7 @@ module _ (verdict : List ℕ → Option Mode → Option ℕ) (mode : Option Mode
       (first_or_next (verdict c None) i _ (Some f) e)
 
   -- A component before others has no mode.
-  before_others : (i : ℕ) (c : List ℕ) (cs : List (List ℕ)) → (cs ≡ [] → ⊥)
+  pub before_others : (i : ℕ) (c : List ℕ) (cs : List (List ℕ)) → (cs ≡ [] → ⊥)
       → first_verdict verdict mode i (c ∷ cs) ≡ or_else (verdict c None) i (first_verdict verdict mode (i + 1) cs)
   unfolding first_verdict
   before_others i c [] n = absurd (n refl)
@@ -144,3 +149,7 @@ module _ (m : Meaning) (x : List ℕ) (mode : Option Mode) where
           let none = (p (v.before ++ v.component ∷ s.0) s.1 whole).1 v.component
           (contains_among _ v.component (among_at v.before v.component s.0)) in
           cc
+
+  -- Where the file system passes the name, the search finds none.
+  pub unjudged_from : Passes m x mode → first_verdict m.verdict mode 0 (components x) ≡ None
+  unjudged_from p = none_unless _ (λ f e. let v = verdict_from f e in verdict_not_passed v.0 v.1 v.2 p)

@@ -10,8 +10,8 @@ use Rattle.tag.specs.Bytes.{last_byte, ends_in_lock}
 use Rattle.tag.specs.Errors.{refusal}
 use Rattle.tag.specs.Names.{fault_after, fault, reads}
 use Rattle.tag.specs.declared.Error.{Error}
-use Rattle.tag.specs.Scanning.{after}
-use Rattle.tag.specs.declared.scanner.Scanner.TheVariants.{AfterSlash}
+use Rattle.tag.specs.Scanning.{after, ordinary}
+use Rattle.tag.specs.declared.scanner.Scanner.TheVariants.{AfterOther, AfterSlash}
 use Rattle.tag.proofs.Firsts.{first_refuses}
 
 -- The byte that was added last is the last byte.
@@ -20,6 +20,16 @@ last_byte_push s b = get_or_push s b 0 _ (simp length_push (omega arith))
 
 pub last_byte_more : (s : List ℕ) (i : ℕ) → i < length s → last_byte (take (i + 1) s) ≡ get_or s i 0
 last_byte_more s i h = ap last_byte (take_more s i 0 h) ∙ last_byte_push (take i s) (get_or s i 0)
+
+-- An ordinary byte has no fault after any byte, is no slash, and leaves the state AfterOther.
+pub ordinary_passes : (b : ℕ) → ordinary b ≡ true → (a : ℕ) → allowed ≡ fault_after a b
+ordinary_passes b h a = grind (arith, nat_tests)
+
+pub ordinary_no_slash : (b : ℕ) → ordinary b ≡ true → b ≡ 47 → ⊥
+ordinary_no_slash b h e = grind (arith, nat_tests)
+
+pub ordinary_after : (b : ℕ) → ordinary b ≡ true → after b ≡ AfterOther
+ordinary_after b h = grind (arith, nat_tests)
 
 -- The state is AfterSlash behind a slash, and only there.
 pub after_slash : (b : ℕ) → b ≡ 47 → after b ≡ AfterSlash

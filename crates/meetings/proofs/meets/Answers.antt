@@ -1,33 +1,20 @@
--- The first pair of components that differ decides; the test decides what meeting means.
-use Rattle.std.proofs.Common.{◌≡◌, true, ap, ◌∙◌, rules}
+-- The test decides what meeting means, whichever name comes first.
+use Rattle.std.proofs.Common.{◌∙◌}
 use Rattle.std.proofs.lemmas.Bool.Decides.{Decides-at}
-use Rattle.std.proofs.lemmas.Iterator.{YieldsList-from_zip}
-use Rattle.std.proofs.lemmas.Iterator.Consumers.{YieldsList-from_first}
-use Rattle.std.proofs.lemmas.Iterator.Search.{find_from_yields_List}
-use borrow.Author.Tests.{tests}
-use Rattle.tag.specs.Components.{components}
-use Rattle.tag.specs.ComponentsLeft.{components_left}
-use Rattle.protections.proofs.Equal.{tested, test_mapped}
-use Rattle.meetings.specs.Meeting.{meet}
-use Rattle.meetings.proofs.Meetings.{meet_decides}
-use Rattle.meetings.proofs.Pairwise.{by_first, differ, first_decides}
+use Rattle.meetings.proofs.Meetings.{meet_decides, meet_turned}
 use Rattle.meetings.proofs.meets.Goals as goal
 
-pub returns : goal.returns
-unfolding meet
-returns g c =
+pub returns-then-left-right : goal.returns-then-left-right
+returns-then-left-right g c =
     let together = g.F.FileSystem.together c.args.files.now in
-    let left = components c.args.left.now in
-    let right = components c.args.right.now in
-    let first =
-    find_from_yields_List differ _ _ c.find.result c.find.ensures.ran
-    (YieldsList-from_zip (YieldsList-from_first (λ x. x.now) components_left left cc) (YieldsList-from_first (λ x. x.now) components_left right cc))
-    (λ x b q k. search (rules, tests))
-    in
-    let test : c.is_none_or.result ≡ meet together c.args.left.now c.args.right.now =
-    tested (λ x. together x.0.now x.1.now) true c.find.result c.is_none_or.result _ c.is_none_or.ensures (λ x p. search rules)
-    ∙ test_mapped (λ x. (x.0.now, x.1.now)) (λ p. together p.0 p.1) c.find.result true
-    ∙ ap (by_first together) first
-    ∙ first_decides together left right
-    in
+    let test = c.meet_by_components.ensures in
     record { test = test; words = Decides-at _ _ test (meet_decides together c.args.left.now c.args.right.now) }
+
+pub returns-else-left-right : goal.returns-else-left-right
+returns-else-left-right g c =
+    let files = c.args.files.now in
+    let together = g.F.FileSystem.together files in
+    let left = c.args.left.now in
+    let right = c.args.right.now in
+    let test = c.meet_by_components-else-left-right.ensures ∙ meet_turned together (g.met.F.FileSystem.symmetric files) right left in
+    record { test = test; words = Decides-at _ _ test (meet_decides together left right) }
