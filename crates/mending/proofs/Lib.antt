@@ -12,3 +12,4 @@ pub mod Adding
 pub mod Ending
 pub mod Filling
 pub mod Written
+pub mod FirstComponent

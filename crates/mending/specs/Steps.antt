@@ -1,8 +1,13 @@
 -- How the text grows, component by component. Only private functions cite these definitions: no public contract rests on them.
-use Rattle.std.specs.Prelude.{ℕ, ◌+◌, Bool, if◌then◌else◌, ◌&&◌, ◌||◌, List, [], ◌∷◌, ◌++◌, length, ◌==◌, slice_index}
+use Rattle.std.specs.Prelude.{◌≡◌, ◌≢◌, ◌<◌, ◌≤◌, ℕ, ◌+◌, Bool, if◌then◌else◌, ◌&&◌, ◌||◌, List, [], ◌∷◌, ◌++◌, length, ◌==◌, slice_index}
 use Rattle.std.specs.Str.{byte}
 use Rattle.tag.specs.Bytes.{last_byte}
 use Rattle.mending.specs.Mender.{mended_component}
+
+-- The first component of s has n bytes: none of these is a slash, and a slash or the end comes next.
+abbrev pub FirstEnds : List ℕ → ℕ → Type 0
+FirstEnds s n =
+    (n ≤ length s) × ((k : ℕ) → k < n → slice_index s k ≢ byte "/") × (n < length s → slice_index s n ≡ byte "/")
 
 -- The text with one component more: an empty one adds nothing, and a slash stands before any but the first.
 abbrev pub add : List ℕ → List ℕ → List ℕ

@@ -9,7 +9,6 @@ ghost use Rattle.mending.specs.Mender.{buffer_after, length_or_error, mended, re
 ghost use Rattle.mending.specs.Mends.{Mends};
 
 use std::fmt;
-use tag::components::Components;
 use tag::scanner::Scanner;
 use text::Text;
 
@@ -73,9 +72,7 @@ fn fill_room(input: &[u8], front: &mut [u8]) -> usize
     ensures buffer { front.new ≡ mended input.now ++ replicate (room input.now - result) 0 }
 {
     let mut text = Text::new(front);
-    for component in Components::of(input) {
-        text.push_component(component);
-    }
+    text.push_components(input);
     text.mend_ends();
     text.finish()
 }

@@ -5,6 +5,6 @@ use Rattle.mending.proofs.text.Text.push_replaced.Goals as goal
 pub returns-clause-adds : goal.returns-clause-adds
 returns-clause-adds c =
     let t = c.args.self.now in
-    let w = c.write_replaced.ensures in
-    let fits : c.write_replaced.result ≤ length c.write_replaced.new.out = omega arith in
-    written t.buffer.now c.write_replaced.new.out _ t.end c.write_replaced.result t.fits fits w.writes
+    let w = c.write_replaced-progress.ensures in
+    let fits : c.write_replaced-progress.result.written ≤ length c.write_replaced-progress.new.out = omega arith in
+    written t.buffer.now c.write_replaced-progress.new.out _ t.end c.write_replaced-progress.result.written t.fits fits w.writes
